@@ -1,0 +1,7 @@
+pub mod Bounds
+pub mod Laws
+pub mod Linear
+pub mod Machine
+pub mod Products
+pub mod Ring
+pub mod Tests

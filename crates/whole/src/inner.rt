@@ -1,0 +1,58 @@
+//! Functions on numbers alone, for the crates above.
+ghost use mathlib.Core.Path.{_≡_};
+ghost use mathlib.Core.Logic.{_≢_};
+ghost use Prim.Native.Nat.{_^_};
+ghost use lib.IntN.{ℤ, pos, natAbs};
+ghost use Rattle.whole.specs.Number.{Within, isWithin, eqZ};
+ghost use Rattle.whole.specs.Number.{lesser as lesserOf, greater as greaterOf};
+ghost use Rattle.whole.specs.Rounded.{rounded as roundedOf};
+
+/// Whether `x` is from `-limit` to `limit`.
+pub fn within(x: i64, limit: u32) -> bool
+    ensures { λ r. ⌜ r ≡ isWithin limit x ⌝ }
+{
+    let most = limit as i64;
+    if most < x {
+        return false;
+    }
+    if x < -most {
+        return false;
+    }
+    true
+}
+
+/// The lesser of two numbers.
+pub fn lesser(a: i64, b: i64) -> i64
+    ensures { λ r. ⌜ r ≡ lesserOf a b ⌝ }
+{
+    if b < a { b } else { a }
+}
+
+/// The greater of two numbers.
+pub fn greater(a: i64, b: i64) -> i64
+    ensures { λ r. ⌜ r ≡ greaterOf a b ⌝ }
+{
+    if a < b { b } else { a }
+}
+
+/// The absolute value.
+pub fn magnitude(x: i64) -> i64
+    requires { ⌜ Within x (2 ^ 61) ⌝ }
+    ensures { λ r. ⌜ r ≡ pos (natAbs x) ⌝ }
+{
+    if x < 0 { -x } else { x }
+}
+
+/// The nearest whole number to n / d, halves away from zero.
+pub fn rounded(n: i64, d: i64) -> i64
+    requires { ⌜ Within n (2 ^ 61) ⌝ }
+    requires { ⌜ Within d (2 ^ 61) ⌝ }
+    requires { ⌜ d ≢ pos 0 ⌝ }
+    ensures { λ r. ⌜ r ≡ roundedOf n d ⌝ }
+{
+    let half = magnitude(d) / 2;
+    if n < 0 {
+        return (n - half) / d;
+    }
+    (n + half) / d
+}
