@@ -1,6 +1,7 @@
 //! Points, lines and sides, and the numbers that bound the work.
 pub mod inner; // inner.rt: what is worked out of them
 pub mod limits; // limits.rt: 01's table of numbers
+pub mod refusals; // refusals.rt: 01's table of refusals
 
 /// A point of the screen: columns grow to the right, rows grow downwards.
 pub struct Point {
