@@ -1,0 +1,29 @@
+use mathlib.Core.Path.{_≡_, sym, ap, _∙_}
+use mathlib.Core.Bool.{true}
+use borrow.Author.Needs.{needs}
+use Rattle.intersection_params.specs.Crossing.{areNear, crossingValues, crossingAnswer}
+use Rattle.intersection_params.proofs.Laws.{near-first, near-second}
+use Rattle.intersection_params.proofs.crossing.Statement.{statement}
+use Rattle.intersection_params.proofs.crossing.Tie as tie
+
+inside : (c : tie.Then1) → areNear (c .before .before .args .first) (c .before .before .args .second) ≡ true
+inside c = sym (c .before .are-near .ensures) ∙ c .if1 .taken
+
+are-near-requires : tie.Need-are-near-requires
+are-near-requires c κs = search needs
+
+crossing-requires : tie.Need-crossing-requires
+crossing-requires c κs =
+    let a = c .before .before .args in
+    (near-first (a .first) (a .second) (inside c), near-second (a .first) (a .second) (inside c))
+
+returns : tie.Need-returns
+unfolding crossingAnswer
+returns c = ap crossingValues (c .crossing .ensures) ∙ simp (inside (c .before))
+
+returns-2 : tie.Need-returns-2
+unfolding crossingAnswer
+returns-2 c = simp (sym (c .before .are-near .ensures) ∙ c .if1 .left)
+
+pub crossing-spec : {M : Type 1} → statement M
+crossing-spec = tie.close (tie.spec are-near-requires crossing-requires returns returns-2)

@@ -1,0 +1,95 @@
+//! The crossing of two lines, for the crates above: no test of the input, but bounds that the caller shows.
+ghost use mathlib.Core.Path.{_≡_};
+ghost use Rattle.shapes.specs.Limits.{lineLimit};
+ghost use Rattle.shapes.specs.Shape.{LineNear};
+ghost use Rattle.linear_equation.specs.Equation.{Tame};
+ghost use Rattle.intersection_params.specs.Crossing.{Roomy, cramerOf, solutionOf, sideOf, drawnOf, crossingOf, nearlyColinear};
+use crate::Intersection;
+use crate::Solution;
+use linear_equation::LinearEquation;
+use linear_equation::inner::from_line;
+use shapes::Line;
+use shapes::Point;
+use shapes::Side;
+use shapes::inner::delta;
+use shapes::inner::determinant;
+use shapes::inner::dot_product;
+use whole::inner::magnitude;
+use whole::inner::rounded;
+
+/// The determinant and the two numerators of the crossing, by Cramer's rule on the equations of the lines.
+pub fn cramer(a: LinearEquation, b: LinearEquation) -> Solution
+    requires { ⌜ Tame a ⌝ }
+    requires { ⌜ Tame b ⌝ }
+    ensures { λ r. ⌜ r ≡ cramerOf a b ⌝ }
+{
+    let m = a.normal;
+    let n = b.normal;
+    let distances = Point {
+        x: a.distance,
+        y: b.distance,
+    };
+    let xs = Point { x: m.x, y: n.x };
+    let ys = Point { x: m.y, y: n.y };
+    Solution {
+        determinant: determinant(m, n),
+        x: determinant(distances, ys),
+        y: determinant(xs, distances),
+    }
+}
+
+/// The true crossing of two lines, not rounded.
+pub fn solve(first: Line, second: Line) -> Solution
+    requires { ⌜ LineNear lineLimit first ⌝ }
+    requires { ⌜ LineNear lineLimit second ⌝ }
+    ensures { λ r. ⌜ r ≡ solutionOf first second ⌝ }
+{
+    cramer(from_line(first), from_line(second))
+}
+
+/// The outer side of a bend whose determinant is not 0.
+pub fn outer_side(determinant: i64) -> Side
+    ensures { λ r. ⌜ r ≡ sideOf determinant ⌝ }
+{
+    if determinant < 0 {
+        Side::Left
+    } else {
+        Side::Right
+    }
+}
+
+/// A solution, rounded to the nearest whole coordinates.
+pub fn drawn(solution: Solution) -> Intersection
+    requires { ⌜ Roomy solution ⌝ }
+    ensures { λ r. ⌜ r ≡ drawnOf solution ⌝ }
+{
+    let determinant = solution.determinant;
+    if determinant == 0 {
+        return Intersection::Colinear;
+    }
+    let point = Point {
+        x: rounded(solution.x, determinant),
+        y: rounded(solution.y, determinant),
+    };
+    Intersection::At(point, outer_side(determinant))
+}
+
+/// The crossing of two lines; never a refusal.
+pub fn crossing(first: Line, second: Line) -> Intersection
+    requires { ⌜ LineNear lineLimit first ⌝ }
+    requires { ⌜ LineNear lineLimit second ⌝ }
+    ensures { λ r. ⌜ r ≡ crossingOf first second ⌝ }
+{
+    drawn(solve(first, second))
+}
+
+/// Whether two lines run nearly the same way.
+pub fn nearly_colinear(first: Line, second: Line) -> bool
+    requires { ⌜ LineNear lineLimit first ⌝ }
+    requires { ⌜ LineNear lineLimit second ⌝ }
+    ensures { λ r. ⌜ r ≡ nearlyColinear first second ⌝ }
+{
+    let d = solve(first, second).determinant;
+    let dot = dot_product(delta(first), delta(second));
+    d * d < magnitude(dot)
+}

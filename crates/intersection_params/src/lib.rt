@@ -1,0 +1,69 @@
+//! Where two lines cross, and whether they run so nearly alike that rounding spoils the crossing: `intersection_params.rs`.
+ghost use mathlib.Core.Path.{_≡_};
+ghost use Rattle.intersection_params.specs.Crossing.{areNear, crossingValues, crossingAnswer, nearlyAnswer};
+pub mod inner; // inner.rt: the same without the tests
+use linear_equation::Tested;
+use shapes::Line;
+use shapes::Point;
+use shapes::Side;
+use shapes::inner::is_line_near;
+use shapes::limits::CROSSING;
+use shapes::refusals::COORDINATE;
+
+/// What two lines, made longer without end, have in common.
+pub enum Intersection {
+    /// A single point, rounded to the nearest whole coordinates, and the outer side of the bend from the first line to the
+    /// second.
+    At(Point, Side),
+    /// No point or all of them: the lines run the same way.
+    Colinear,
+    /// Nothing was worked out; the number says why.
+    Refused(u64),
+}
+
+/// The true crossing of two lines, not rounded: (x / determinant, y / determinant) where the determinant is not 0.
+pub struct Solution {
+    pub determinant: i64,
+    pub x: i64,
+    pub y: i64,
+}
+
+/// The crossing of two lines: each coordinate is the nearest whole number to the true one, halves away from zero; the outer
+/// side is Left exactly where the determinant of the two directions is negative; Colinear exactly where it is 0, as it is
+/// where a line's start is its end. A coordinate beyond 1,023 is refused with 4.
+pub fn crossing(first: Line, second: Line) -> Intersection
+    ensures { λ r. ⌜ crossingValues r ≡ crossingAnswer first second ⌝ }
+{
+    if are_near(first, second) {
+        return inner::crossing(first, second);
+    }
+    Intersection::Refused(COORDINATE)
+}
+
+/// Whether two lines run nearly the same way: the squared determinant of their directions is strictly below the absolute
+/// value of the directions' dot product. A coordinate beyond 1,023 is refused with 4.
+pub fn nearly_colinear(first: Line, second: Line) -> Tested
+    ensures { λ r. ⌜ r ≡ nearlyAnswer first second ⌝ }
+{
+    if are_near(first, second) {
+        return Tested {
+            refusal: 0,
+            holds: inner::nearly_colinear(first, second),
+        };
+    }
+    Tested {
+        refusal: COORDINATE,
+        holds: false,
+    }
+}
+
+/// Whether both lines are inside the limit.
+fn are_near(first: Line, second: Line) -> bool
+    ensures { λ r. ⌜ r ≡ areNear first second ⌝ }
+{
+    if is_line_near(first, CROSSING) {
+        is_line_near(second, CROSSING)
+    } else {
+        false
+    }
+}
