@@ -1,7 +1,9 @@
 //! Where two lines cross, and whether they run so nearly alike that rounding spoils the crossing: `intersection_params.rs`.
 ghost use mathlib.Core.Path.{_≡_};
 ghost use Rattle.intersection_params.specs.Crossing.{areNear, crossingValues, crossingAnswer, nearlyAnswer};
+
 pub mod inner; // inner.rt: the same without the tests
+
 use linear_equation::Tested;
 use shapes::Line;
 use shapes::Point;

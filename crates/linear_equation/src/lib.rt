@@ -1,7 +1,9 @@
 //! The equation of a line, how far a point lies from it, and on which side: the integer half of `linear_equation.rs`.
 ghost use mathlib.Core.Path.{_≡_};
 ghost use Rattle.linear_equation.specs.Equation.{areNear, equationAnswer, distanceAnswer, sideAnswer};
+
 pub mod inner; // inner.rt: the same without the tests
+
 use shapes::Line;
 use shapes::Point;
 use shapes::Side;

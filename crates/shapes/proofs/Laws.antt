@@ -1,5 +1,6 @@
 -- Laws of points and lines: bounds of what is worked out of them, and what a quarter turn keeps. Assumes nothing.
 use mathlib.Core.Path.{_≡_, refl, sym, _∙_}
+use mathlib.Core.Logic.{_↔_}
 use mathlib.Core.Bool.{true}
 use Prim.Native.Nat.{ℕ, _+_, _*_, _^_, _≤_}
 use lib.Dec.{T, ltb}
@@ -88,6 +89,12 @@ true-line-near k l e =
 pub line-near-true : {k : ℕ} {l : Line} → LineNear k l → isLineNear k l ≡ true
 unfolding isLineNear
 line-near-true h = simp (near-true (h .start-near), near-true (h .end-near))
+
+pub near-iff : (k : ℕ) (p : Point) → (isNear k p ≡ true) ↔ Near k p
+near-iff k p = (true-near k p, near-true)
+
+pub line-near-iff : (k : ℕ) (l : Line) → (isLineNear k l ≡ true) ↔ LineNear k l
+line-near-iff k l = (true-line-near k l, line-near-true)
 
 -- ---- a quarter turn of both keeps the determinant
 

@@ -4,7 +4,7 @@ use mathlib.Core.Path.{_≡_, refl, sym, ap, _∙_}
 use mathlib.Core.Logic.{_≢_, _⊎_, inl, inr, ⊎-elim}
 use mathlib.Core.Bool.{Bool, true, false}
 use Prim.Native.Nat.{ℕ, zero, suc, _+_, _*_, _-_, _/_, _%_, _≤_, _<_, zero-le}
-use native.Mathlib.Nat.{suc-add, mul-le-mul-left, div-add-mod', mod-lt}
+use native.Mathlib.Nat.{suc-add, mul-le-mul-left, mul-le-mul-right, mul-lt-mul-of-pos-right, le-of-mul-le-mul-right, lt-of-mul-lt-mul-right, eq-of-mul-eq-mul-right, div-add-mod', mod-lt}
 use native.Mathlib.Omega.{arith}
 use borrow.Author.Tests.{le-leb, leb-true, leb-false, le-ltb}
 use lib.Dec.{ltb}
@@ -13,9 +13,9 @@ use lib.Signed.{ltZ, quotZ, _≤ℤ_}
 use Rattle.whole.specs.Number.{Within, isWithin, lesser, greater}
 use Rattle.whole.specs.Rounded.{rounded, Nearest}
 use Rattle.whole.proofs.Linear.{up, dn, linear, sum, opp, diff, times, abs-parts, abs-le, le-or-lt, eq-or-apart}
-use Rattle.whole.proofs.Bounds.{abs-neg}
+use Rattle.whole.proofs.Bounds.{abs-neg, abs-mul}
 use Rattle.whole.proofs.Products.{negℤ-*ℤ}
-use Rattle.whole.proofs.Ring.{neg, _⊖_, _⊗_, _≈_, ring}
+use Rattle.whole.proofs.Ring.{con, neg, _⊖_, _⊗_, _≈_, since, ring}
 
 -- ---- bounds
 
@@ -161,3 +161,31 @@ unique-at n e x y p q =
 pub nearest-unique : (n d x y : ℤ) → Nearest n d x → Nearest n d y → x ≡ y
 nearest-unique n (pos e) x y p q = unique-at n e x y p q
 nearest-unique n (negsuc e) x y p q = unique-at (negℤ n) (suc e) x y (mirrored p) (mirrored q)
+
+-- ---- the nearest to a fraction, whichever way it is written
+
+-- from |b| |d| = |a| |q|, for the two gaps a and b
+module _ (n d p q x : ℤ) (same : p *ℤ d ≡ n *ℤ q) where
+  gaps : natAbs (x *ℤ q -ℤ p) * natAbs d ≡ natAbs (x *ℤ d -ℤ n) * natAbs q
+  gaps =
+      sym (abs-mul (x *ℤ q -ℤ p) d)
+      ∙ ap natAbs (ring 5 (λ n d p q x. since (con (negsuc 0)) (p ⊗ d) (n ⊗ q) ((x ⊗ q ⊖ p) ⊗ d ≈ (x ⊗ d ⊖ n) ⊗ q)) refl n d p q x same)
+      ∙ abs-mul (x *ℤ d -ℤ n) q
+
+  sizes : natAbs p * natAbs d ≡ natAbs n * natAbs q
+  sizes = sym (abs-mul p d) ∙ ap natAbs same ∙ abs-mul n q
+
+  multiples : natAbs (x *ℤ q) * natAbs d ≡ natAbs (x *ℤ d) * natAbs q
+  multiples = sym (abs-mul (x *ℤ q) d) ∙ ap natAbs (ring 3 (λ d q x. x ⊗ q ⊗ d ≈ x ⊗ d ⊗ q) refl d q x) ∙ abs-mul (x *ℤ d) q
+
+pub nearest-ratio : (n d p q x : ℤ) → d ≢ pos 0 → q ≢ pos 0 → p *ℤ d ≡ n *ℤ q → Nearest n d x → Nearest p q x
+nearest-ratio n d p q x sd sq same h =
+    let a = natAbs (x *ℤ d -ℤ n) in
+    let b = natAbs (x *ℤ q -ℤ p) in
+    let g = gaps n d p q x same in
+    record {
+      near = le-of-mul-le-mul-right {k = natAbs d} (omega (arith, mul-le-mul-right (natAbs q) (h .near))) (some-abs d sd);
+      away = λ half.
+          let whole-half = eq-of-mul-eq-mul-right (natAbs q) (some-abs q sq) (2 * a) (natAbs d) (omega (arith, ap (λ k. k * natAbs d) half)) in
+          lt-of-mul-lt-mul-right (natAbs d) (omega (arith, mul-lt-mul-of-pos-right (h .away whole-half) (some-abs q sq), sizes n d p q x same, multiples n d p q x same));
+    }

@@ -2,7 +2,7 @@ use mathlib.Core.Path.{_≡_, sym, _∙_}
 use mathlib.Core.Bool.{true}
 use borrow.Author.Needs.{needs}
 use Rattle.intersection_params.specs.Crossing.{areNear, nearlyAnswer}
-use Rattle.intersection_params.proofs.Laws.{near-first, near-second}
+use Rattle.intersection_params.proofs.Room.{near-first, near-second}
 use Rattle.intersection_params.proofs.nearly_colinear.Statement.{statement}
 use Rattle.intersection_params.proofs.nearly_colinear.Tie as tie
 

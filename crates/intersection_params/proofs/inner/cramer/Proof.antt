@@ -24,18 +24,16 @@ determinant-requires c κs = search needs
 
 determinant-requires-2 : tie.Need-determinant-requires-2
 determinant-requires-2 c κs =
-    let t = start c .pre in
-    (
+    let t = start c .pre in (
       near-held (hold (t .0 .distance-within) tt) (hold (t .1 .distance-within) tt) (lit≤ tt) (lit≤ tt),
-      near-held (y-held (t .0 .normal-near) tt) (y-held (t .1 .normal-near) tt) (lit≤ tt) (lit≤ tt)
+      near-held (y-held (t .0 .normal-near) tt) (y-held (t .1 .normal-near) tt) (lit≤ tt) (lit≤ tt),
     )
 
 determinant-requires-3 : tie.Need-determinant-requires-3
 determinant-requires-3 c κs =
-    let t = start (c .before) .pre in
-    (
+    let t = start (c .before) .pre in (
       near-held (x-held (t .0 .normal-near) tt) (x-held (t .1 .normal-near) tt) (lit≤ tt) (lit≤ tt),
-      near-held (hold (t .0 .distance-within) tt) (hold (t .1 .distance-within) tt) (lit≤ tt) (lit≤ tt)
+      near-held (hold (t .0 .distance-within) tt) (hold (t .1 .distance-within) tt) (lit≤ tt) (lit≤ tt),
     )
 
 returns : tie.Need-returns

@@ -1,7 +1,7 @@
 use mathlib.Core.Path.{_∙_, ap}
 use borrow.Author.Needs.{needs}
 use Rattle.intersection_params.specs.Crossing.{drawnOf, crossingOf}
-use Rattle.intersection_params.proofs.Laws.{solution-roomy}
+use Rattle.intersection_params.proofs.Room.{solution-roomy}
 use Rattle.intersection_params.proofs.inner.crossing.Statement.{statement}
 use Rattle.intersection_params.proofs.inner.crossing.Tie as tie
 

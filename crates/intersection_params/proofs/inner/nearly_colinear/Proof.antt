@@ -12,7 +12,7 @@ use Rattle.whole.proofs.Machine.{Hold, hold, hold-as, fits-mul, hold-mul}
 use Rattle.shapes.specs.Shape.{dotProduct, delta}
 use Rattle.shapes.proofs.Laws.{near-more, near-delta, within-dot}
 use Rattle.intersection_params.specs.Crossing.{solutionOf, nearlyColinear}
-use Rattle.intersection_params.proofs.Laws.{solution-roomy}
+use Rattle.intersection_params.proofs.Room.{solution-roomy}
 use Rattle.intersection_params.proofs.inner.nearly_colinear.Statement.{statement}
 use Rattle.intersection_params.proofs.inner.nearly_colinear.Tie as tie
 
