@@ -1,0 +1,50 @@
+-- 01's corners with numbers hold. Assumes nothing.
+use mathlib.Core.Path.{_≡_, refl, sym, ap, _∙_}
+use mathlib.Core.Bool.{Bool, true, false}
+use lib.IntN.{pos, natAbs, _*ℤ_, zero-*ℤ, *ℤ-zero}
+use lib.Signed.{ltZ}
+use Rattle.whole.specs.Number.{isWithin}
+use Rattle.whole.specs.Rounded.{rounded}
+use Rattle.shapes.specs.declared.Point.{Point}
+use Rattle.shapes.specs.declared.Line.{Line}
+use Rattle.shapes.specs.Limits.{crossingLimit}
+use Rattle.shapes.specs.Shape.{LineNear, pointOf, lineOf, isNear, isLineNear, minus, quarterTurn, determinant, dotProduct, delta}
+use Rattle.shapes.proofs.Laws.{true-line-near}
+use Rattle.linear_equation.specs.Equation.{equationOf, distanceOf, isOnSide, areNear as pointNear, sideAnswer}
+use Rattle.intersection_params.specs.declared.Intersection.the-variants.{Colinear}
+use Rattle.intersection_params.specs.Crossing.{cramerOf, solutionOf, sideOf, drawnOf, crossingOf, nearlyColinear, areNear, crossingValues, crossingAnswer, nearlyAnswer}
+use Rattle.intersection_params.specs.Words.{turn}
+use Rattle.intersection_params.proofs.Laws.{directions, colinear-exactly, crossing-chosen, nearly-chosen}
+use Rattle.corners.specs.Cases.{nearly, Holds, Every, cases}
+
+-- a line from (3,3) to (3,3) has no direction
+abbrev dot : Line
+dot = lineOf (pointOf (pos 3) (pos 3)) (pointOf (pos 3) (pos 3))
+
+dot-near : LineNear crossingLimit dot
+unfolding isLineNear isNear isWithin
+dot-near = true-line-near crossingLimit dot refl
+
+dot-first : (b : Line) → turn dot b ≡ pos 0
+unfolding determinant delta minus
+dot-first b = simp zero-*ℤ
+
+dot-second : (b : Line) → turn b dot ≡ pos 0
+unfolding determinant delta minus
+dot-second b = simp *ℤ-zero
+
+with-any : (b : Line) → LineNear crossingLimit b → (crossingAnswer dot b ≡ crossingValues Colinear) × (crossingAnswer b dot ≡ crossingValues Colinear)
+with-any b h = (
+  crossing-chosen dot b .holds (dot-near, h) ∙ ap crossingValues (colinear-exactly dot b .1 (dot-first b)),
+  crossing-chosen b dot .holds (h, dot-near) ∙ ap crossingValues (colinear-exactly b dot .1 (dot-second b)),
+)
+
+-- the near-colinear test knows the deltas alone
+by-deltas : (p q : Point) (t : Bool) → ltZ (determinant p q *ℤ determinant p q) (pos (natAbs (dotProduct p q))) ≡ t → Holds (nearly p q t)
+unfolding Holds nearlyColinear
+by-deltas p q t e a b ha hb da db = nearly-chosen a b .holds (ha, hb) ∙ simp (directions a b, da, db, e)
+
+pub corners : Every cases
+unfolding cases Every Holds crossingAnswer crossingValues areNear isLineNear isNear isWithin crossingOf drawnOf sideOf rounded solutionOf cramerOf equationOf determinant dotProduct quarterTurn delta minus sideAnswer pointNear isOnSide distanceOf
+corners =
+    (refl, (refl, (refl, (refl, (refl, (with-any, (by-deltas _ _ false refl, (by-deltas _ _ true refl, ((refl, refl), ((refl, refl), tt))))))))))

@@ -1,0 +1,64 @@
+-- 01, "Corners with numbers": the cases marked P, in one list, and what each of them says of the entries' answers.
+use mathlib.Core.Path.{_≡_}
+use mathlib.Core.Bool.{Bool, true, false}
+use mathlib.Core.List.{List, [], _∷_}
+use lib.IntN.{ℤ, pos, negsuc}
+use Rattle.shapes.specs.declared.Point.{Point}
+use Rattle.shapes.specs.declared.Line.{Line}
+use Rattle.shapes.specs.declared.Side.the-variants.{Left, Right}
+use Rattle.shapes.specs.Limits.{crossingLimit}
+use Rattle.shapes.specs.Shape.{LineNear, pointOf, lineOf, delta}
+use Rattle.linear_equation.specs.Equation.{sideAnswer}
+use Rattle.intersection_params.specs.declared.Intersection.{Intersection}
+use Rattle.intersection_params.specs.declared.Intersection.the-variants.{At, Colinear}
+use Rattle.intersection_params.specs.Crossing.{crossingValues, crossingAnswer, nearlyAnswer}
+
+pub data Case : Type 0 where
+  -- two lines and their crossing
+  crossing : Line → Line → Intersection → Case
+  -- a line, and its crossing with any line inside the limit, as the first of the two and as the second
+  crossingWithAny : Line → Intersection → Case
+  -- two deltas, and whether lines that have them run nearly the same way
+  nearly : Point → Point → Bool → Case
+  -- a line and a point, and whether the point is on the left, and on the right
+  sides : Line → Point → Bool → Bool → Case
+
+unfoldable pub Holds : Case → Type 0
+Holds (crossing a b r) = crossingAnswer a b ≡ crossingValues r
+Holds (crossingWithAny a r) =
+    (b : Line) → LineNear crossingLimit b → (crossingAnswer a b ≡ crossingValues r) × (crossingAnswer b a ≡ crossingValues r)
+Holds (nearly p q t) =
+    (a b : Line) → LineNear crossingLimit a → LineNear crossingLimit b → delta a ≡ p → delta b ≡ q → nearlyAnswer a b ≡ record { refusal = 0; holds = t }
+Holds (sides l p left right) =
+    (sideAnswer l p Left ≡ record { refusal = 0; holds = left }) × (sideAnswer l p Right ≡ record { refusal = 0; holds = right })
+
+-- each case of a list holds
+unfoldable pub Every : List Case → Type 0
+Every [] = Unit
+Every (c ∷ cs) = Holds c × Every cs
+
+-- the line from (x, y) to (u, v)
+abbrev line : ℤ → ℤ → ℤ → ℤ → Line
+line x y u v = lineOf (pointOf x y) (pointOf u v)
+
+unfoldable pub cases : List Case
+cases =
+    -- P1
+    crossing (line (pos 0) (pos 0) (pos 4) (pos 0)) (line (pos 2) (negsuc 1) (pos 2) (pos 2)) (At (pointOf (pos 2) (pos 0)) Right)
+    -- P2: the lines exchanged
+    ∷ crossing (line (pos 2) (negsuc 1) (pos 2) (pos 2)) (line (pos 0) (pos 0) (pos 4) (pos 0)) (At (pointOf (pos 2) (pos 0)) Left)
+    -- P3
+    ∷ crossing (line (pos 0) (pos 0) (pos 1) (pos 1)) (line (pos 0) (pos 1) (pos 1) (pos 0)) (At (pointOf (pos 1) (pos 1)) Left)
+    -- P4
+    ∷ crossing (line (pos 0) (pos 0) (negsuc 0) (negsuc 0)) (line (pos 0) (negsuc 0) (negsuc 0) (pos 0)) (At (pointOf (negsuc 0) (negsuc 0)) Left)
+    -- P6
+    ∷ crossing (line (pos 0) (pos 0) (pos 4) (pos 0)) (line (pos 0) (pos 1) (pos 4) (pos 1)) Colinear
+    -- P7
+    ∷ crossingWithAny (line (pos 3) (pos 3) (pos 3) (pos 3)) Colinear
+    -- P8
+    ∷ nearly (pointOf (pos 1) (pos 0)) (pointOf (pos 1) (pos 1)) false
+    ∷ nearly (pointOf (pos 1) (pos 0)) (pointOf (pos 2) (pos 1)) true
+    -- P9
+    ∷ sides (line (pos 0) (pos 0) (pos 10) (pos 0)) (pointOf (pos 5) (negsuc 0)) true false
+    ∷ sides (line (pos 0) (pos 0) (pos 10) (pos 0)) (pointOf (pos 5) (pos 0)) true true
+    ∷ []
