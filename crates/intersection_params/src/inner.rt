@@ -71,7 +71,8 @@ pub fn drawn(solution: Solution) -> Intersection
         x: rounded(solution.x, determinant),
         y: rounded(solution.y, determinant),
     };
-    Intersection::At(point, outer_side(determinant))
+    let side = outer_side(determinant);
+    Intersection::At(point, side)
 }
 
 /// The crossing of two lines; never a refusal.

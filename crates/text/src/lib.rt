@@ -72,7 +72,7 @@ fn digits_at(s: &[u8], at: usize) -> Digits
 }
 
 /// The byte at `at`; 0 past the end, which is neither a digit nor a '-'.
-fn byte_at(s: &[u8], at: usize) -> u8
+pub fn byte_at(s: &[u8], at: usize) -> u8
     ensures { λ r. ⌜ r ≡ getD (now (s .entry)) at 0 ⌝ }
 {
     if at < s.len() { s[at] } else { 0 }

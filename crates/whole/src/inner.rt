@@ -35,7 +35,17 @@ pub fn greater(a: i64, b: i64) -> i64
     if a < b { b } else { a }
 }
 
-/// The absolute value.
+/// The absolute value of any number, which may be one more than an `i64` holds.
+pub fn size(x: i64) -> u64
+    ensures { λ r. ⌜ r ≡ natAbs x ⌝ }
+{
+    if x < 0 {
+        return -(x + 1) as u64 + 1;
+    }
+    x as u64
+}
+
+/// The absolute value of a number that is not the least of all.
 pub fn magnitude(x: i64) -> i64
     requires { ⌜ Within x (2 ^ 61) ⌝ }
     ensures { λ r. ⌜ r ≡ pos (natAbs x) ⌝ }
