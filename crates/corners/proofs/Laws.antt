@@ -1,5 +1,5 @@
 -- 01's corners with numbers hold. Assumes nothing.
-use mathlib.Core.Path.{_≡_, refl, sym, ap, _∙_}
+use mathlib.Core.Path.{_≡_, refl, ap, _∙_}
 use mathlib.Core.Bool.{Bool, true, false}
 use lib.IntN.{pos, natAbs, _*ℤ_, zero-*ℤ, *ℤ-zero}
 use lib.Signed.{ltZ}
@@ -12,7 +12,7 @@ use Rattle.shapes.specs.Shape.{LineNear, pointOf, lineOf, isNear, isLineNear, m
 use Rattle.shapes.proofs.Laws.{true-line-near}
 use Rattle.linear_equation.specs.Equation.{equationOf, distanceOf, isOnSide, areNear as pointNear, sideAnswer}
 use Rattle.intersection_params.specs.declared.Intersection.the-variants.{Colinear}
-use Rattle.intersection_params.specs.Crossing.{cramerOf, solutionOf, sideOf, drawnOf, crossingOf, nearlyColinear, areNear, crossingValues, crossingAnswer, nearlyAnswer}
+use Rattle.intersection_params.specs.Crossing.{cramerOf, solutionOf, sideOf, drawnOf, crossingOf, nearlyColinear, areNear, crossingValues, crossingAnswer}
 use Rattle.intersection_params.specs.Words.{turn}
 use Rattle.intersection_params.proofs.Laws.{directions, colinear-exactly, crossing-chosen, nearly-chosen}
 use Rattle.corners.specs.Cases.{nearly, Holds, Every, cases}

@@ -1,14 +1,13 @@
 -- What 01 says in words of the crossing of two lines. Assumes nothing.
 use mathlib.Core.Path.{_≡_, refl, sym, ap, subst, _∙_}
 use mathlib.Core.Logic.{_≢_, _↔_}
-use mathlib.Core.Bool.{Bool, true, false, _&&_, cond}
+use mathlib.Core.Bool.{Bool, true, false, cond}
 use Prim.Native.Nat.{ℕ}
 use native.Mathlib.Omega.{arith}
 use lib.Dec.{eqb}
-use lib.IntN.{ℤ, pos, natAbs, negℤ, _+ℤ_, _-ℤ_, _*ℤ_, ℤ-discrete}
+use lib.IntN.{ℤ, pos, natAbs, _-ℤ_, _*ℤ_, ℤ-discrete}
 use lib.Signed.{ltZ, _<ℤ_}
-use Rattle.whole.specs.Number.{eqZ}
-use Rattle.whole.specs.Rounded.{rounded, Nearest}
+use Rattle.whole.specs.Rounded.{rounded}
 use Rattle.whole.proofs.Laws.{rounded-nearest, nearest-unique, nearest-ratio}
 use Rattle.whole.proofs.Machine.{eqZ-no}
 use Rattle.whole.proofs.Ring.{con, neg, _⊕_, _⊖_, _⊗_, _≈_, since, ring}
@@ -17,14 +16,14 @@ use Rattle.shapes.specs.declared.Point.{Point}
 use Rattle.shapes.specs.declared.Line.{Line}
 use Rattle.shapes.specs.declared.Side.{Side}
 use Rattle.shapes.specs.declared.Side.the-variants.{Left, Right}
-use Rattle.shapes.specs.Limits.{crossingLimit, lineLimit}
+use Rattle.shapes.specs.Limits.{crossingLimit}
 use Rattle.shapes.specs.Shape.{LineNear, isLineNear, pointOf, determinant, dotProduct, quarterTurn, delta, minus}
 use Rattle.shapes.proofs.Laws.{line-near-iff, turn-determinant}
 use Rattle.linear_equation.specs.Equation.{equationOf}
 use Rattle.intersection_params.specs.declared.Solution.{Solution}
 use Rattle.intersection_params.specs.declared.Intersection.{Intersection}
 use Rattle.intersection_params.specs.declared.Intersection.the-variants.{At, Colinear, Refused}
-use Rattle.intersection_params.specs.Crossing.{cramerOf, solutionOf, sideOf, drawnOf, crossingOf, nearlyColinear, areNear, CrossingValues, crossingValues, foundOf, crossingAnswer, nearlyAnswer}
+use Rattle.intersection_params.specs.Crossing.{cramerOf, solutionOf, sideOf, drawnOf, crossingOf, nearlyColinear, areNear, CrossingValues, crossingValues, crossingAnswer, nearlyAnswer}
 use Rattle.intersection_params.specs.Words.{turn, OnLine, TrueCrossing, SamePoint, IsDrawn}
 
 -- ---- the numerators over the determinant are the true crossing, and nothing else is

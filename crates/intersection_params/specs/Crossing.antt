@@ -5,7 +5,6 @@ use lib.IntN.{ℤ, pos, natAbs, _*ℤ_}
 use lib.Signed.{ltZ}
 use Rattle.whole.specs.Number.{Within, eqZ}
 use Rattle.whole.specs.Rounded.{rounded}
-use Rattle.shapes.specs.declared.Point.{Point}
 use Rattle.shapes.specs.declared.Line.{Line}
 use Rattle.shapes.specs.declared.Side.{Side}
 use Rattle.shapes.specs.declared.Side.the-variants.{Left, Right}

@@ -1,6 +1,6 @@
 -- 01, linear_equation.rs: the equation of a line, the distance of a point, the side test, and the entries' answers.
 use mathlib.Core.Bool.{Bool, false, _&&_, cond}
-use Prim.Native.Nat.{ℕ, _^_}
+use Prim.Native.Nat.{_^_}
 use lib.IntN.{ℤ, pos, _-ℤ_}
 use lib.Signed.{leZ}
 use Rattle.whole.specs.Number.{Within}

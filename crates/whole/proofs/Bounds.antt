@@ -1,8 +1,7 @@
 -- How large a sum, a difference, a product and a quotient are, by the absolute values of their parts. Assumes nothing.
 use mathlib.Core.Path.{_≡_, refl}
-use mathlib.Core.Bool.{true, false}
 use Prim.Native.Nat.{ℕ, zero, suc, _+_, _*_, _/_, _≤_}
-use native.Mathlib.Nat.{mul-le-mul, le-refl, le-trans, div-le-self}
+use native.Mathlib.Nat.{mul-le-mul, le-trans, div-le-self}
 use native.Mathlib.Omega.{arith}
 use lib.IntN.{ℤ, pos, negsuc, natAbs, negℤ, _+ℤ_, _-ℤ_, _*ℤ_}
 use lib.Signed.{quotZ}

@@ -1,15 +1,14 @@
 -- What 01 says in words of the definitions of specs/: a rounded quotient is the nearest whole number, halves away from
 -- zero, and no other is; a test of bounds holds exactly within them. Assumes nothing.
 use mathlib.Core.Path.{_≡_, refl, sym, ap, _∙_}
-use mathlib.Core.Logic.{_≢_, _⊎_, inl, inr, ⊎-elim}
+use mathlib.Core.Logic.{_≢_, _⊎_, ⊎-elim}
 use mathlib.Core.Bool.{Bool, true, false}
-use Prim.Native.Nat.{ℕ, zero, suc, _+_, _*_, _-_, _/_, _%_, _≤_, _<_, zero-le}
+use Prim.Native.Nat.{ℕ, zero, suc, _+_, _*_, _-_, _/_, _≤_, _<_, zero-le}
 use native.Mathlib.Nat.{suc-add, mul-le-mul-left, mul-le-mul-right, mul-lt-mul-of-pos-right, le-of-mul-le-mul-right, lt-of-mul-lt-mul-right, eq-of-mul-eq-mul-right, div-add-mod', mod-lt}
 use native.Mathlib.Omega.{arith}
 use borrow.Author.Tests.{le-leb, leb-true, leb-false, le-ltb}
-use lib.Dec.{ltb}
 use lib.IntN.{ℤ, pos, negsuc, natAbs, negℤ, _+ℤ_, _-ℤ_, _*ℤ_, negℤ-negℤ, *ℤ-comm}
-use lib.Signed.{ltZ, quotZ, _≤ℤ_}
+use lib.Signed.{ltZ, _≤ℤ_}
 use Rattle.whole.specs.Number.{Within, isWithin, lesser, greater}
 use Rattle.whole.specs.Rounded.{rounded, Nearest}
 use Rattle.whole.proofs.Linear.{up, dn, linear, sum, opp, diff, times, abs-parts, abs-le, le-or-lt, eq-or-apart}

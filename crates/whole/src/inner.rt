@@ -2,8 +2,8 @@
 ghost use mathlib.Core.Path.{_≡_};
 ghost use mathlib.Core.Logic.{_≢_};
 ghost use Prim.Native.Nat.{_^_};
-ghost use lib.IntN.{ℤ, pos, natAbs};
-ghost use Rattle.whole.specs.Number.{Within, isWithin, eqZ};
+ghost use lib.IntN.{pos, natAbs};
+ghost use Rattle.whole.specs.Number.{Within, isWithin};
 ghost use Rattle.whole.specs.Number.{lesser as lesserOf, greater as greaterOf};
 ghost use Rattle.whole.specs.Rounded.{rounded as roundedOf};
 

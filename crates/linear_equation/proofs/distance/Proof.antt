@@ -3,7 +3,7 @@ use mathlib.Core.Bool.{true}
 use borrow.Author.Needs.{needs}
 use mir.Facts.{toZ-ofZ}
 use mir.Syntax.{w64}
-use Rattle.linear_equation.specs.Equation.{areNear, equationOf, distanceOf, distanceAnswer}
+use Rattle.linear_equation.specs.Equation.{areNear, distanceOf, distanceAnswer}
 use Rattle.linear_equation.proofs.Laws.{tame, line-room, point-room, near-line, near-point}
 use Rattle.linear_equation.proofs.distance.Statement.{statement}
 use Rattle.linear_equation.proofs.distance.Tie as tie

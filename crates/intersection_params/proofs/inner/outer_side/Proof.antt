@@ -1,4 +1,3 @@
-use Rattle.whole.proofs.Machine.{lt-back}
 use mir.Facts.{toZ-ofZ}
 use Rattle.intersection_params.specs.Crossing.{sideOf}
 use Rattle.intersection_params.proofs.inner.outer_side.Statement.{statement}

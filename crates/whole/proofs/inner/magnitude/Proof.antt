@@ -1,7 +1,6 @@
 use mathlib.Core.Path.{_∙_}
-use Prim.Native.Nat.{_^_}
 use Rattle.whole.proofs.Linear.{neg-abs, pos-abs}
-use Rattle.whole.proofs.Machine.{Hold, hold, literal, fits-neg, hold-neg, lt-hold}
+use Rattle.whole.proofs.Machine.{hold, literal, fits-neg, hold-neg, lt-hold}
 use Rattle.whole.proofs.inner.magnitude.Statement.{statement}
 use Rattle.whole.proofs.inner.magnitude.Tie as tie
 

@@ -6,7 +6,7 @@ use lib.Dec.{lit<}
 use lib.IntN.{pos, natAbs}
 use mir.Syntax.{w64}
 use mir.Val.{ofZ}
-use Rattle.whole.specs.Rounded.{rounded, half}
+use Rattle.whole.specs.Rounded.{rounded}
 use Rattle.whole.proofs.Machine.{Hold, hold, hold-as, literal, fits-div, fits-quot, fits-sub, fits-add, hold-quot, hold-sub, hold-add, lt-hold}
 use Rattle.whole.proofs.inner.rounded.Statement.{statement}
 use Rattle.whole.proofs.inner.rounded.Tie as tie

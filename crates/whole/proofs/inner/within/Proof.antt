@@ -1,15 +1,14 @@
 -- `whole::inner::within` meets its contract. Assumes nothing.
 use mathlib.Core.Path.{sym}
-use mathlib.Core.Bool.{true, false}
 use Prim.Native.Nat.{_^_}
 use native.Mathlib.Omega.{arith}
 use borrow.Author.Needs.{needs}
 use borrow.Author.Tests.{le-leb, lt-leb}
-use lib.IntN.{pos, natAbs, negℤ, _-ℤ_}
+use lib.IntN.{pos, natAbs}
 use mir.Facts.{toZ-ofZ}
 use Rattle.whole.specs.Number.{isWithin}
 use Rattle.whole.proofs.Linear.{linear, opp, abs-parts, abs-le}
-use Rattle.whole.proofs.Machine.{Hold, hold, fits-neg, hold-neg, lt-hold}
+use Rattle.whole.proofs.Machine.{Hold, hold, fits-neg, hold-neg}
 use Rattle.whole.proofs.inner.within.Statement.{statement}
 use Rattle.whole.proofs.inner.within.Tie as tie
 
