@@ -4,15 +4,21 @@ use intersection_params::Intersection;
 use intersection_params::crossing;
 use intersection_params::nearly_colinear;
 use libc::STDIN_FILENO;
-use libc::STDOUT_FILENO;
 use linear_equation::Tested;
 use linear_equation::check_side;
 use linear_equation::distance;
 use linear_equation::equation;
+use replay_text::after;
+use replay_text::line_at;
+use replay_text::say;
+use replay_text::say_bool;
+use replay_text::say_next;
+use replay_text::say_number;
+use replay_text::say_point;
+use replay_text::say_refused;
 use shapes::Line;
 use shapes::Point;
 use shapes::Side;
-use whole::inner::size;
 
 fn main() {
     let mut questions = [0u8; 262144];
@@ -46,55 +52,16 @@ fn answer(questions: &[u8], at: usize) {
     say(b"\n");
 }
 
-struct PointAt {
-    point: Point,
-    next: usize,
-}
-
-struct LineAt {
-    line: Line,
-    next: usize,
-}
-
-fn line_at(s: &[u8], at: usize) -> LineAt {
-    let a = point_at(s, at);
-    let b = point_at(s, a.next);
-    let start = a.point;
-    let end = b.point;
-    LineAt {
-        line: Line { start, end },
-        next: b.next,
-    }
-}
-
-fn point_at(s: &[u8], at: usize) -> PointAt {
-    let x = text::number_at(s, at);
-    let y = text::number_at(s, after(x.next));
-    PointAt {
-        point: Point {
-            x: x.value,
-            y: y.value,
-        },
-        next: after(y.next),
-    }
-}
-
-/// The next place of a text, which is shorter than a million bytes.
-fn after(at: usize) -> usize {
-    if at < 1000000 { at + 1 } else { at }
-}
-
 fn say_equation(line: Line) {
     let r = equation(line);
     if r.refusal != 0 {
         say_refused(r.refusal);
         return;
     }
-    say_signed(r.equation.normal.x);
-    say(b" ");
-    say_signed(r.equation.normal.y);
-    say(b" ");
-    say_signed(r.equation.distance);
+    let e = r.equation;
+    let normal = e.normal;
+    say_point(normal);
+    say_next(e.distance);
 }
 
 fn say_distance(line: Line, point: Point) {
@@ -103,7 +70,7 @@ fn say_distance(line: Line, point: Point) {
         say_refused(r.refusal);
         return;
     }
-    say_signed(r.distance);
+    say_number(r.distance);
 }
 
 fn say_sides(line: Line, point: Point) {
@@ -119,9 +86,7 @@ fn say_sides(line: Line, point: Point) {
 fn say_crossing(first: Line, second: Line) {
     match crossing(first, second) {
         Intersection::At(point, side) => {
-            say_signed(point.x);
-            say(b" ");
-            say_signed(point.y);
+            say_point(point);
             match side {
                 Side::Left => say(b" Left"),
                 Side::Right => say(b" Right"),
@@ -135,25 +100,7 @@ fn say_crossing(first: Line, second: Line) {
 fn say_tested(r: Tested) {
     if r.refusal != 0 {
         say_refused(r.refusal);
-    } else if r.holds {
-        say(b"true");
     } else {
-        say(b"false");
+        say_bool(r.holds);
     }
-}
-
-fn say_refused(number: u64) {
-    say(b"refused ");
-    io::print_decimal(STDOUT_FILENO, number);
-}
-
-fn say_signed(x: i64) {
-    if x < 0 {
-        say(b"-");
-    }
-    io::print_decimal(STDOUT_FILENO, size(x));
-}
-
-fn say(words: &[u8]) {
-    io::write_all(STDOUT_FILENO, words);
 }

@@ -1,0 +1,96 @@
+//! Questions and answers as text, for the programs that replay stored questions: points and lines are read out of a
+//! question, and words and numbers are written to standard output. No contract can say what is written.
+ghost use mathlib.Core.Path.{_≡_};
+ghost use Rattle.replay_text.specs.Questions.{nextPlace, pointAt, lineAt};
+use libc::STDOUT_FILENO;
+use shapes::Line;
+use shapes::Point;
+use whole::inner::size;
+
+/// A point that was read, and the place of the number after it.
+pub struct PointAt {
+    pub point: Point,
+    pub next: usize,
+}
+
+/// A line that was read, and the place of the number after it.
+pub struct LineAt {
+    pub line: Line,
+    pub next: usize,
+}
+
+/// The place after a byte, in a text of less than four million bytes; there the place stays.
+pub fn after(at: usize) -> usize
+    ensures { λ r. ⌜ r ≡ nextPlace at ⌝ }
+{
+    if at < 4000000 { at + 1 } else { at }
+}
+
+/// The point whose coordinates stand at a place, a byte between them.
+pub fn point_at(s: &[u8], at: usize) -> PointAt
+    ensures { λ r. ⌜ r ≡ pointAt (now (s .entry)) at ⌝ }
+{
+    let x = text::number_at(s, at);
+    let y = text::number_at(s, after(x.next));
+    PointAt {
+        point: Point {
+            x: x.value,
+            y: y.value,
+        },
+        next: after(y.next),
+    }
+}
+
+/// The line whose start and end stand at a place, a byte between them.
+pub fn line_at(s: &[u8], at: usize) -> LineAt
+    ensures { λ r. ⌜ r ≡ lineAt (now (s .entry)) at ⌝ }
+{
+    let a = point_at(s, at);
+    let b = point_at(s, a.next);
+    let start = a.point;
+    let end = b.point;
+    LineAt {
+        line: Line { start, end },
+        next: b.next,
+    }
+}
+
+/// Writes words.
+pub fn say(words: &[u8]) {
+    io::write_all(STDOUT_FILENO, words);
+}
+
+/// Writes a number in decimal.
+pub fn say_number(x: i64) {
+    if x < 0 {
+        say(b"-");
+    }
+    io::print_decimal(STDOUT_FILENO, size(x));
+}
+
+/// Writes a space and a number.
+pub fn say_next(x: i64) {
+    say(b" ");
+    say_number(x);
+}
+
+/// Writes the two coordinates of a point.
+pub fn say_point(p: Point) {
+    say_number(p.x);
+    say_next(p.y);
+}
+
+/// Writes `true` or `false`.
+pub fn say_bool(b: bool) {
+    if b {
+        say(b"true");
+    } else {
+        say(b"false");
+    }
+}
+
+/// Writes `refused` and the refusal's number.
+pub fn say_refused(number: u64) {
+    say(b"refused ");
+    io::print_decimal(STDOUT_FILENO, number);
+}
