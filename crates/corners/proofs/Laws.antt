@@ -13,36 +13,36 @@ use Rattle.shapes.proofs.Laws.{true-line-near}
 use Rattle.linear_equation.specs.Equation.{equationOf, distanceOf, isOnSide, areNear as pointNear, sideAnswer}
 use Rattle.intersection_params.specs.declared.Intersection.the-variants.{Colinear}
 use Rattle.intersection_params.specs.Crossing.{cramerOf, solutionOf, sideOf, drawnOf, crossingOf, nearlyColinear, areNear, crossingValues, crossingAnswer}
-use Rattle.intersection_params.specs.Words.{turn}
-use Rattle.intersection_params.proofs.Laws.{directions, colinear-exactly, crossing-chosen, nearly-chosen}
+use Rattle.intersection_params.specs.Words.{bend}
+use Rattle.intersection_params.proofs.Laws.{determinant-directions, colinear-exactly, crossing-chosen, nearly-chosen}
 use Rattle.corners.specs.Cases.{nearly, Holds, Every, cases}
 
 -- a line from (3,3) to (3,3) has no direction
-abbrev dot : Line
-dot = lineOf (pointOf (pos 3) (pos 3)) (pointOf (pos 3) (pos 3))
+abbrev still : Line
+still = lineOf (pointOf (pos 3) (pos 3)) (pointOf (pos 3) (pos 3))
 
-dot-near : LineNear crossingLimit dot
+still-near : LineNear crossingLimit still
 unfolding isLineNear isNear isWithin
-dot-near = true-line-near crossingLimit dot refl
+still-near = true-line-near crossingLimit still refl
 
-dot-first : (b : Line) → turn dot b ≡ pos 0
+still-first : (b : Line) → bend still b ≡ pos 0
 unfolding determinant delta minus
-dot-first b = simp zero-*ℤ
+still-first b = simp zero-*ℤ
 
-dot-second : (b : Line) → turn b dot ≡ pos 0
+still-second : (b : Line) → bend b still ≡ pos 0
 unfolding determinant delta minus
-dot-second b = simp *ℤ-zero
+still-second b = simp *ℤ-zero
 
-with-any : (b : Line) → LineNear crossingLimit b → (crossingAnswer dot b ≡ crossingValues Colinear) × (crossingAnswer b dot ≡ crossingValues Colinear)
+with-any : (b : Line) → LineNear crossingLimit b → (crossingAnswer crossingLimit still b ≡ crossingValues Colinear) × (crossingAnswer crossingLimit b still ≡ crossingValues Colinear)
 with-any b h = (
-  crossing-chosen dot b .holds (dot-near, h) ∙ ap crossingValues (colinear-exactly dot b .1 (dot-first b)),
-  crossing-chosen b dot .holds (h, dot-near) ∙ ap crossingValues (colinear-exactly b dot .1 (dot-second b)),
+  crossing-chosen crossingLimit still b .holds (still-near, h) ∙ ap crossingValues (colinear-exactly still b .1 (still-first b)),
+  crossing-chosen crossingLimit b still .holds (h, still-near) ∙ ap crossingValues (colinear-exactly b still .1 (still-second b)),
 )
 
 -- the near-colinear test knows the deltas alone
 by-deltas : (p q : Point) (t : Bool) → ltZ (determinant p q *ℤ determinant p q) (pos (natAbs (dotProduct p q))) ≡ t → Holds (nearly p q t)
 unfolding Holds nearlyColinear
-by-deltas p q t e a b ha hb da db = nearly-chosen a b .holds (ha, hb) ∙ simp (directions a b, da, db, e)
+by-deltas p q t e a b ha hb da db = nearly-chosen crossingLimit a b .holds (ha, hb) ∙ simp (determinant-directions a b, da, db, e)
 
 pub corners : Every cases
 unfolding cases Every Holds crossingAnswer crossingValues areNear isLineNear isNear isWithin crossingOf drawnOf sideOf rounded solutionOf cramerOf equationOf determinant dotProduct quarterTurn delta minus sideAnswer pointNear isOnSide distanceOf

@@ -24,13 +24,13 @@ pub data Case : Type 0 where
   sides : Line → Point → Bool → Bool → Case
 
 unfoldable pub Holds : Case → Type 0
-Holds (crossing a b r) = crossingAnswer a b ≡ crossingValues r
+Holds (crossing a b r) = crossingAnswer crossingLimit a b ≡ crossingValues r
 Holds (crossingWithAny a r) =
-    (b : Line) → LineNear crossingLimit b → (crossingAnswer a b ≡ crossingValues r) × (crossingAnswer b a ≡ crossingValues r)
+    (b : Line) → LineNear crossingLimit b → (crossingAnswer crossingLimit a b ≡ crossingValues r) × (crossingAnswer crossingLimit b a ≡ crossingValues r)
 Holds (nearly p q t) =
-    (a b : Line) → LineNear crossingLimit a → LineNear crossingLimit b → delta a ≡ p → delta b ≡ q → nearlyAnswer a b ≡ record { refusal = 0; holds = t }
+    (a b : Line) → LineNear crossingLimit a → LineNear crossingLimit b → delta a ≡ p → delta b ≡ q → nearlyAnswer crossingLimit a b ≡ record { refusal = 0; holds = t }
 Holds (sides l p left right) =
-    (sideAnswer l p Left ≡ record { refusal = 0; holds = left }) × (sideAnswer l p Right ≡ record { refusal = 0; holds = right })
+    (sideAnswer crossingLimit l p Left ≡ record { refusal = 0; holds = left }) × (sideAnswer crossingLimit l p Right ≡ record { refusal = 0; holds = right })
 
 -- each case of a list holds
 unfoldable pub Every : List Case → Type 0

@@ -4,19 +4,19 @@ use mathlib.Core.Logic.{_≢_, _↔_}
 use mathlib.Core.Bool.{Bool, true, false, cond}
 use Prim.Native.Nat.{ℕ}
 use native.Mathlib.Omega.{arith}
-use lib.Dec.{eqb}
+use lib.Dec.{eqb, lit<}
 use lib.IntN.{ℤ, pos, natAbs, _-ℤ_, _*ℤ_, ℤ-discrete}
 use lib.Signed.{ltZ, _<ℤ_}
+use Rattle.whole.specs.Number.{eqZ}
 use Rattle.whole.specs.Rounded.{rounded}
 use Rattle.whole.proofs.Laws.{rounded-nearest, nearest-unique, nearest-ratio}
 use Rattle.whole.proofs.Machine.{eqZ-no}
 use Rattle.whole.proofs.Ring.{con, neg, _⊕_, _⊖_, _⊗_, _≈_, since, ring}
-use Rattle.whole.proofs.Tests.{and-iff, lt-iff, Chosen, chosen}
+use Rattle.whole.proofs.Tests.{and-iff, lt-iff, Chosen, chosen, chosen-exactly}
 use Rattle.shapes.specs.declared.Point.{Point}
 use Rattle.shapes.specs.declared.Line.{Line}
 use Rattle.shapes.specs.declared.Side.{Side}
 use Rattle.shapes.specs.declared.Side.the-variants.{Left, Right}
-use Rattle.shapes.specs.Limits.{crossingLimit}
 use Rattle.shapes.specs.Shape.{LineNear, isLineNear, pointOf, determinant, dotProduct, quarterTurn, delta, minus}
 use Rattle.shapes.proofs.Laws.{line-near-iff, turn-determinant}
 use Rattle.linear_equation.specs.Equation.{equationOf}
@@ -24,14 +24,14 @@ use Rattle.intersection_params.specs.declared.Solution.{Solution}
 use Rattle.intersection_params.specs.declared.Intersection.{Intersection}
 use Rattle.intersection_params.specs.declared.Intersection.the-variants.{At, Colinear, Refused}
 use Rattle.intersection_params.specs.Crossing.{cramerOf, solutionOf, sideOf, drawnOf, crossingOf, nearlyColinear, areNear, CrossingValues, crossingValues, crossingAnswer, nearlyAnswer}
-use Rattle.intersection_params.specs.Words.{turn, OnLine, TrueCrossing, SamePoint, IsDrawn}
+use Rattle.intersection_params.specs.Words.{bend, OnLine, TrueCrossing, SamePoint, IsDrawn}
 
 -- ---- the numerators over the determinant are the true crossing, and nothing else is
 
 -- the Rust takes the determinant of the normals, which is that of the directions
-pub directions : (a b : Line) → solutionOf a b .determinant ≡ turn a b
+pub determinant-directions : (a b : Line) → solutionOf a b .determinant ≡ bend a b
 unfolding solutionOf cramerOf equationOf
-directions a b = turn-determinant (delta a) (delta b)
+determinant-directions a b = turn-determinant (delta a) (delta b)
 
 module _ (a b : Line) where
   -- a start and a direction: what the equations below are about
@@ -54,12 +54,12 @@ module _ (a b : Line) where
       ⊖ uy ⊗ (((sx ⊗ neg dy ⊕ sy ⊗ dx) ⊗ ux ⊖ (tx ⊗ neg uy ⊕ ty ⊗ ux) ⊗ dx) ⊖ (neg dy ⊗ ux ⊖ dx ⊗ neg uy) ⊗ tx)
       ≈ con (pos 0)) refl)
 
-  pub solution-true : turn a b ≢ pos 0 → TrueCrossing a b (solutionOf a b)
-  solution-true h = record { some = rw (directions a b) h; on-first = solution-on-first; on-second = solution-on-second }
+  pub solution-true : bend a b ≢ pos 0 → TrueCrossing a b (solutionOf a b)
+  solution-true h = record { some = rw (determinant-directions a b) h; on-first = solution-on-first; on-second = solution-on-second }
 
-  pub true-solution : (t : Solution) → OnLine a t → OnLine b t → SamePoint t (solutionOf a b)
+  pub true-crossing-unique : (t : Solution) → OnLine a t → OnLine b t → SamePoint t (solutionOf a b)
   unfolding solutionOf cramerOf equationOf determinant dotProduct quarterTurn delta minus
-  true-solution t p q =
+  true-crossing-unique t p q =
       record {
         same-x =
             at8 (ring 11 (λ sx sy dx dy tx ty ux uy x y d.
@@ -96,34 +96,34 @@ one-side Right Right p q = refl
 
 -- the point that the definition draws
 abbrev nearest : Line → Line → Point
-nearest a b = pointOf (rounded (solutionOf a b .x) (turn a b)) (rounded (solutionOf a b .y) (turn a b))
+nearest a b = pointOf (rounded (solutionOf a b .x) (bend a b)) (rounded (solutionOf a b .y) (bend a b))
 
-colinear : (a b : Line) → turn a b ≡ pos 0 → crossingOf a b ≡ Colinear
+colinear : (a b : Line) → bend a b ≡ pos 0 → crossingOf a b ≡ Colinear
 unfolding crossingOf drawnOf
-colinear a b z = simp (directions a b ∙ z)
+colinear a b z = simp (determinant-directions a b ∙ z)
 
-drawn : (a b : Line) → turn a b ≢ pos 0 → crossingOf a b ≡ At (nearest a b) (sideOf (turn a b))
+drawn : (a b : Line) → bend a b ≢ pos 0 → crossingOf a b ≡ At (nearest a b) (sideOf (bend a b))
 unfolding crossingOf drawnOf
-drawn a b h = simp (directions a b, eqZ-no (turn a b) (pos 0) h)
+drawn a b h = simp (determinant-directions a b, eqZ-no (bend a b) (pos 0) h)
 
 -- Colinear exactly when the determinant of the two directions is 0
-pub colinear-exactly : (a b : Line) → (crossingOf a b ≡ Colinear) ↔ (turn a b ≡ pos 0)
-colinear-exactly a b = (λ e. by-case (ℤ-discrete (turn a b) (pos 0)) e, colinear a b)
+pub colinear-exactly : (a b : Line) → (crossingOf a b ≡ Colinear) ↔ (bend a b ≡ pos 0)
+colinear-exactly a b = (λ e. by-case (ℤ-discrete (bend a b) (pos 0)) e, colinear a b)
   where
-    by-case : Dec (turn a b ≡ pos 0) → crossingOf a b ≡ Colinear → turn a b ≡ pos 0
+    by-case : Dec (bend a b ≡ pos 0) → crossingOf a b ≡ Colinear → bend a b ≡ pos 0
     by-case (yes z) e = z
-    by-case (no h) e = let z : _≡_ {A = ℕ} 0 1 = cc (drawn a b h) in absurd (omega arith)
+    by-case (no h) e = cc (drawn a b h)
 
 -- it is what 01 says
-as-said : (a b : Line) → turn a b ≢ pos 0 → IsDrawn a b (nearest a b) (sideOf (turn a b))
+as-said : (a b : Line) → bend a b ≢ pos 0 → IsDrawn a b (nearest a b) (sideOf (bend a b))
 as-said a b h =
     let s = solutionOf a b in
-    let same : (t : Solution) → TrueCrossing a b t → SamePoint t s = λ t c. true-solution a b t (c .on-first) (c .on-second) in
+    let same : (t : Solution) → TrueCrossing a b t → SamePoint t s = λ t c. true-crossing-unique a b t (c .on-first) (c .on-second) in
     record {
       crosses = h;
-      nearest-x = λ t c. nearest-ratio (s .x) (turn a b) (t .x) (t .determinant) _ h (c .some) (rw directions at (same t c .same-x)) (rounded-nearest (s .x) (turn a b) h);
-      nearest-y = λ t c. nearest-ratio (s .y) (turn a b) (t .y) (t .determinant) _ h (c .some) (rw directions at (same t c .same-y)) (rounded-nearest (s .y) (turn a b) h);
-      left = left-negative (turn a b);
+      nearest-x = λ t c. nearest-ratio (s .x) (bend a b) (t .x) (t .determinant) _ h (c .some) (rw determinant-directions at (same t c .same-x)) (rounded-nearest (s .x) (bend a b) h);
+      nearest-y = λ t c. nearest-ratio (s .y) (bend a b) (t .y) (t .determinant) _ h (c .some) (rw determinant-directions at (same t c .same-y)) (rounded-nearest (s .y) (bend a b) h);
+      left = left-negative (bend a b);
     }
 
 -- a crossing is drawn exactly as 01 says
@@ -132,18 +132,18 @@ module _ (a b : Line) (p : Point) (s : Side) where
   only-said d =
       let h = d .crosses in
       let true-one = solution-true a b h in
-      let x = nearest-unique _ _ _ _ (rw directions at (d .nearest-x (solutionOf a b) true-one)) (rounded-nearest (solutionOf a b .x) (turn a b) h) in
-      let y = nearest-unique _ _ _ _ (rw directions at (d .nearest-y (solutionOf a b) true-one)) (rounded-nearest (solutionOf a b .y) (turn a b) h) in
-      drawn a b h ∙ simp (sym x, sym y, sym (one-side s (sideOf (turn a b)) (d .left) (left-negative (turn a b))))
+      let x = nearest-unique _ _ _ _ (rw determinant-directions at (d .nearest-x (solutionOf a b) true-one)) (rounded-nearest (solutionOf a b .x) (bend a b) h) in
+      let y = nearest-unique _ _ _ _ (rw determinant-directions at (d .nearest-y (solutionOf a b) true-one)) (rounded-nearest (solutionOf a b .y) (bend a b) h) in
+      drawn a b h ∙ simp (sym x, sym y, sym (one-side s (sideOf (bend a b)) (d .left) (left-negative (bend a b))))
 
   pub drawn-exactly : (crossingOf a b ≡ At p s) ↔ IsDrawn a b p s
-  drawn-exactly = (λ e. by-case (ℤ-discrete (turn a b) (pos 0)) e, only-said)
+  drawn-exactly = (λ e. by-case (ℤ-discrete (bend a b) (pos 0)) e, only-said)
     where
-      by-case : Dec (turn a b ≡ pos 0) → crossingOf a b ≡ At p s → IsDrawn a b p s
+      by-case : Dec (bend a b ≡ pos 0) → crossingOf a b ≡ At p s → IsDrawn a b p s
       by-case (yes z) e = let n : _≡_ {A = ℕ} 0 1 = cc (colinear a b z) in absurd (omega arith)
       by-case (no h) e =
           let point : nearest a b ≡ p = cc (drawn a b h) in
-          let side : sideOf (turn a b) ≡ s = cc (drawn a b h) in
+          let side : sideOf (bend a b) ≡ s = cc (drawn a b h) in
           subst (λ q. IsDrawn a b q s) point (subst (λ t. IsDrawn a b (nearest a b) t) side (as-said a b h))
 
 -- ---- the entries' answers
@@ -163,27 +163,43 @@ read-back (Refused n) = refl
 pub values-tell : (r s : Intersection) → crossingValues r ≡ crossingValues s → r ≡ s
 values-tell r s e = sym (read-back r) ∙ ap readBack e ∙ read-back s
 
--- both lines are inside the limit
-abbrev pub Inside : Line → Line → Type 0
-Inside a b = LineNear crossingLimit a × LineNear crossingLimit b
+-- both lines are inside a limit
+abbrev pub Inside : ℕ → Line → Line → Type 0
+Inside k a b = LineNear k a × LineNear k b
 
-pub near-exactly : (a b : Line) → (areNear a b ≡ true) ↔ Inside a b
+pub near-exactly : (k : ℕ) (a b : Line) → (areNear k a b ≡ true) ↔ Inside k a b
 unfolding areNear
-near-exactly a b = and-iff (isLineNear crossingLimit a) (isLineNear crossingLimit b) (line-near-iff crossingLimit a) (line-near-iff crossingLimit b)
+near-exactly k a b = and-iff (isLineNear k a) (isLineNear k b) (line-near-iff k a) (line-near-iff k b)
 
 -- inside the limit the crossing, else refusal 4 with 0 in every other value
-pub crossing-chosen : (a b : Line) → Chosen (Inside a b) (crossingAnswer a b) (crossingValues (crossingOf a b)) (record { refusal = 4; found = 0; x = pos 0; y = pos 0 })
+pub crossing-chosen : (k : ℕ) (a b : Line) → Chosen (Inside k a b) (crossingAnswer k a b) (crossingValues (crossingOf a b)) (record { refusal = 4; found = 0; x = pos 0; y = pos 0 })
 unfolding crossingAnswer crossingValues
-crossing-chosen a b =
-    let c = chosen (areNear a b) (crossingOf a b) (Refused 4) (near-exactly a b) in
+crossing-chosen k a b =
+    let c = chosen (areNear k a b) (crossingOf a b) (Refused 4) (near-exactly k a b) in
     record { holds = λ h. ap crossingValues (c .holds h); fails = λ n. ap crossingValues (c .fails n) }
 
-pub nearly-chosen : (a b : Line) → Chosen (Inside a b) (nearlyAnswer a b) (record { refusal = 0; holds = nearlyColinear a b }) (record { refusal = 4; holds = false })
+pub nearly-chosen : (k : ℕ) (a b : Line) → Chosen (Inside k a b) (nearlyAnswer k a b) (record { refusal = 0; holds = nearlyColinear a b }) (record { refusal = 4; holds = false })
 unfolding nearlyAnswer
-nearly-chosen a b = chosen (areNear a b) _ _ (near-exactly a b)
+nearly-chosen k a b = chosen (areNear k a b) _ _ (near-exactly k a b)
+
+unrefused-by : (t : Bool) (p : Point) (s : Side) → crossingValues (cond t Colinear (At p s)) .refusal ≡ 0
+unfolding crossingValues
+unrefused-by true p s = refl
+unrefused-by false p s = refl
+
+-- a crossing that is worked out is no refusal
+unrefused : (a b : Line) → crossingValues (crossingOf a b) .refusal ≡ 0
+unfolding crossingOf drawnOf
+unrefused a b = unrefused-by (eqZ (solutionOf a b .determinant) (pos 0)) _ _
+
+pub crossing-refused : (k : ℕ) (a b : Line) → (crossingAnswer k a b .refusal ≡ 4) ↔ (Inside k a b → ⊥)
+crossing-refused k a b = chosen-exactly (λ v. v .refusal) (unrefused a b) refl (lit< tt) (crossing-chosen k a b)
+
+pub nearly-refused : (k : ℕ) (a b : Line) → (nearlyAnswer k a b .refusal ≡ 4) ↔ (Inside k a b → ⊥)
+nearly-refused k a b = chosen-exactly (λ v. v .refusal) refl refl (lit< tt) (nearly-chosen k a b)
 
 -- ---- the near-colinear test
 
-pub nearly-exactly : (a b : Line) → (nearlyColinear a b ≡ true) ↔ ((turn a b *ℤ turn a b) <ℤ pos (natAbs (dotProduct (delta a) (delta b))))
+pub nearly-exactly : (a b : Line) → (nearlyColinear a b ≡ true) ↔ ((bend a b *ℤ bend a b) <ℤ pos (natAbs (dotProduct (delta a) (delta b))))
 unfolding nearlyColinear
-nearly-exactly a b = rw directions (lt-iff (turn a b *ℤ turn a b) (pos (natAbs (dotProduct (delta a) (delta b)))))
+nearly-exactly a b = rw determinant-directions (lt-iff (bend a b *ℤ bend a b) (pos (natAbs (dotProduct (delta a) (delta b)))))

@@ -25,10 +25,10 @@ unfolding solutionOf
 solution-roomy h i = roomy (tame h) (tame i)
 
 -- what passes the entries' tests is small enough
-pub near-first : (a b : Line) → areNear a b ≡ true → LineNear lineLimit a
+pub near-first : (a b : Line) → areNear crossingLimit a b ≡ true → LineNear lineLimit a
 unfolding areNear
 near-first a b e = line-room a (and-left (isLineNear crossingLimit a) (isLineNear crossingLimit b) e)
 
-pub near-second : (a b : Line) → areNear a b ≡ true → LineNear lineLimit b
+pub near-second : (a b : Line) → areNear crossingLimit a b ≡ true → LineNear lineLimit b
 unfolding areNear
 near-second a b e = line-room b (and-right (isLineNear crossingLimit a) (isLineNear crossingLimit b) e)

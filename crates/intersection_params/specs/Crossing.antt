@@ -8,7 +8,6 @@ use Rattle.whole.specs.Rounded.{rounded}
 use Rattle.shapes.specs.declared.Line.{Line}
 use Rattle.shapes.specs.declared.Side.{Side}
 use Rattle.shapes.specs.declared.Side.the-variants.{Left, Right}
-use Rattle.shapes.specs.Limits.{crossingLimit}
 use Rattle.shapes.specs.Refusals.{coordinateRefused}
 use Rattle.shapes.specs.Shape.{pointOf, isLineNear, determinant, dotProduct, delta}
 use Rattle.linear_equation.specs.declared.LinearEquation.{LinearEquation}
@@ -58,7 +57,7 @@ unfoldable pub nearlyColinear : Line → Line → Bool
 nearlyColinear a b =
     ltZ (solutionOf a b .determinant *ℤ solutionOf a b .determinant) (pos (natAbs (dotProduct (delta a) (delta b))))
 
--- ---- the entries' answers: refusal 4 for a coordinate beyond 1,023, and then 0 in every other field
+-- ---- the entries' answers, for a limit k: refusal 4 for a coordinate beyond it, and then 0 in every other field
 
 -- the refusal; what was found, 1 Colinear, 2 a crossing with its outer side Left, 3 one with Right; and where
 pub record CrossingValues : Type 0 where
@@ -77,12 +76,12 @@ crossingValues Colinear = record { refusal = 0; found = 1; x = pos 0; y = pos 0 
 crossingValues (Refused n) = record { refusal = n; found = 0; x = pos 0; y = pos 0 }
 
 -- whether both lines are inside the limit
-unfoldable pub areNear : Line → Line → Bool
-areNear a b = isLineNear crossingLimit a && isLineNear crossingLimit b
+unfoldable pub areNear : ℕ → Line → Line → Bool
+areNear k a b = isLineNear k a && isLineNear k b
 
-unfoldable pub crossingAnswer : Line → Line → CrossingValues
-crossingAnswer a b = crossingValues (cond (areNear a b) (crossingOf a b) (Refused coordinateRefused))
+unfoldable pub crossingAnswer : ℕ → Line → Line → CrossingValues
+crossingAnswer k a b = crossingValues (cond (areNear k a b) (crossingOf a b) (Refused coordinateRefused))
 
-unfoldable pub nearlyAnswer : Line → Line → Tested
-nearlyAnswer a b =
-    cond (areNear a b) (record { refusal = 0; holds = nearlyColinear a b }) (record { refusal = coordinateRefused; holds = false })
+unfoldable pub nearlyAnswer : ℕ → Line → Line → Tested
+nearlyAnswer k a b =
+    cond (areNear k a b) (record { refusal = 0; holds = nearlyColinear a b }) (record { refusal = coordinateRefused; holds = false })

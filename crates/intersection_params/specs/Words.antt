@@ -1,4 +1,4 @@
--- What 01's demand 2 says of a crossing, in words that know no formula: the true crossing is a point of both lines, and the
+-- What demand 2 says of a crossing, in words that know no formula: the true crossing is a point of both lines, and the
 -- drawn one lies nearest to it.
 use mathlib.Core.Path.{_≡_}
 use mathlib.Core.Logic.{_≢_, _↔_}
@@ -13,8 +13,8 @@ use Rattle.shapes.specs.Shape.{pointOf, determinant, delta}
 use Rattle.intersection_params.specs.declared.Solution.{Solution}
 
 -- the determinant of the two directions
-abbrev pub turn : Line → Line → ℤ
-turn a b = determinant (delta a) (delta b)
+abbrev pub bend : Line → Line → ℤ
+bend a b = determinant (delta a) (delta b)
 
 -- the point (x / d, y / d) of a solution lies on a line: the way to it from the line's start, d times as long, runs along the line
 abbrev pub OnLine : Line → Solution → Type 0
@@ -25,7 +25,7 @@ pub record TrueCrossing (a b : Line) (t : Solution) : Type 0 where
   pub on-first : OnLine a t
   pub on-second : OnLine b t
 
--- two solutions are the same point
+-- two solutions whose determinants are not 0 are the same point
 pub record SamePoint (t u : Solution) : Type 0 where
   pub same-x : t .x *ℤ u .determinant ≡ u .x *ℤ t .determinant
   pub same-y : t .y *ℤ u .determinant ≡ u .y *ℤ t .determinant
@@ -33,7 +33,7 @@ pub record SamePoint (t u : Solution) : Type 0 where
 -- p is drawn with the outer side s: the directions differ, each coordinate is the nearest whole number to the true one,
 -- halves away from zero, and the side is Left exactly when the directions' determinant is negative
 pub record IsDrawn (a b : Line) (p : Point) (s : Side) : Type 0 where
-  pub crosses : turn a b ≢ pos 0
+  pub crosses : bend a b ≢ pos 0
   pub nearest-x : (t : Solution) → TrueCrossing a b t → Nearest (t .x) (t .determinant) (p .x)
   pub nearest-y : (t : Solution) → TrueCrossing a b t → Nearest (t .y) (t .determinant) (p .y)
-  pub left : (s ≡ Left) ↔ (turn a b <ℤ pos 0)
+  pub left : (s ≡ Left) ↔ (bend a b <ℤ pos 0)

@@ -1,5 +1,6 @@
 //! Where two lines cross, and whether they run so nearly alike that rounding spoils the crossing: `intersection_params.rs`.
 ghost use mathlib.Core.Path.{_≡_};
+ghost use Rattle.shapes.specs.Limits.{crossingLimit};
 ghost use Rattle.intersection_params.specs.Crossing.{areNear, crossingValues, crossingAnswer, nearlyAnswer};
 
 pub mod inner; // inner.rt: the same without the tests
@@ -26,7 +27,9 @@ pub enum Intersection {
 /// The true crossing of two lines, not rounded: (x / determinant, y / determinant) where the determinant is not 0.
 pub struct Solution {
     pub determinant: i64,
+    /// The numerator of the column.
     pub x: i64,
+    /// The numerator of the row.
     pub y: i64,
 }
 
@@ -34,7 +37,7 @@ pub struct Solution {
 /// side is Left exactly where the determinant of the two directions is negative; Colinear exactly where it is 0, as it is
 /// where a line's start is its end. A coordinate beyond 1,023 is refused with 4.
 pub fn crossing(first: Line, second: Line) -> Intersection
-    ensures { λ r. ⌜ crossingValues r ≡ crossingAnswer first second ⌝ }
+    ensures { λ r. ⌜ crossingValues r ≡ crossingAnswer crossingLimit first second ⌝ }
 {
     if are_near(first, second) {
         return inner::crossing(first, second);
@@ -45,7 +48,7 @@ pub fn crossing(first: Line, second: Line) -> Intersection
 /// Whether two lines run nearly the same way: the squared determinant of their directions is strictly below the absolute
 /// value of the directions' dot product. A coordinate beyond 1,023 is refused with 4.
 pub fn nearly_colinear(first: Line, second: Line) -> Tested
-    ensures { λ r. ⌜ r ≡ nearlyAnswer first second ⌝ }
+    ensures { λ r. ⌜ r ≡ nearlyAnswer crossingLimit first second ⌝ }
 {
     if are_near(first, second) {
         return Tested {
@@ -61,7 +64,7 @@ pub fn nearly_colinear(first: Line, second: Line) -> Tested
 
 /// Whether both lines are inside the limit.
 fn are_near(first: Line, second: Line) -> bool
-    ensures { λ r. ⌜ r ≡ areNear first second ⌝ }
+    ensures { λ r. ⌜ r ≡ areNear crossingLimit first second ⌝ }
 {
     if is_line_near(first, CROSSING) {
         is_line_near(second, CROSSING)

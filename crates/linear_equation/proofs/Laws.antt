@@ -4,12 +4,13 @@ use mathlib.Core.Path.{_≡_, refl, sym, _∙_}
 use mathlib.Core.Logic.{_↔_}
 use mathlib.Core.Bool.{true, false}
 use Prim.Native.Nat.{_≤_}
+use Prim.Native.Nat.{ℕ}
 use lib.IntN.{ℤ, pos}
 use lib.Signed.{_≤ℤ_, ≤ℤ-refl}
-use lib.Dec.{lit≤}
+use lib.Dec.{lit<, lit≤}
 use Rattle.whole.proofs.Linear.{linear}
 use Rattle.whole.proofs.Ring.{neg, _⊕_, _⊖_, _⊗_, _≈_, ring}
-use Rattle.whole.proofs.Tests.{and-left, and-right, and-iff, le-iff, Chosen, chosen}
+use Rattle.whole.proofs.Tests.{and-left, and-right, and-iff, le-iff, Chosen, chosen, chosen-exactly}
 use Rattle.shapes.specs.declared.Point.{Point}
 use Rattle.shapes.specs.declared.Line.{Line}
 use Rattle.shapes.specs.declared.Side.{Side}
@@ -32,16 +33,13 @@ tame h =
 pub line-room : (l : Line) → isLineNear crossingLimit l ≡ true → LineNear lineLimit l
 line-room l e = line-near-more (true-line-near crossingLimit l e) (lit≤ tt)
 
-pub point-room : (p : Point) → isNear crossingLimit p ≡ true → Near lineLimit p
-point-room p e = near-more (true-near crossingLimit p e) (lit≤ tt)
-
-pub near-line : (l : Line) (p : Point) → areNear l p ≡ true → isLineNear crossingLimit l ≡ true
+pub near-line : (l : Line) (p : Point) → areNear crossingLimit l p ≡ true → LineNear lineLimit l
 unfolding areNear
-near-line l p e = and-left (isLineNear crossingLimit l) (isNear crossingLimit p) e
+near-line l p e = line-room l (and-left (isLineNear crossingLimit l) (isNear crossingLimit p) e)
 
-pub near-point : (l : Line) (p : Point) → areNear l p ≡ true → isNear crossingLimit p ≡ true
+pub near-point : (l : Line) (p : Point) → areNear crossingLimit l p ≡ true → Near lineLimit p
 unfolding areNear
-near-point l p e = and-right (isLineNear crossingLimit l) (isNear crossingLimit p) e
+near-point l p e = near-more (true-near crossingLimit p (and-right (isLineNear crossingLimit l) (isNear crossingLimit p) e)) (lit≤ tt)
 
 -- ---- what the distance says
 
@@ -75,20 +73,29 @@ both-on-line l p =
       λ z. (left .1 (rw (d, z) (≤ℤ-refl (pos 0))), right .1 (rw (d, z) (≤ℤ-refl (pos 0)))),
     )
 
--- ---- the entries: inside the limit the answer, else refusal 4 with 0 in every other field
+-- ---- the entries, for a limit k: inside it the answer, else refusal 4 with 0 in every other field
 
-pub equation-chosen : (l : Line) → Chosen (LineNear crossingLimit l) (equationAnswer l) (record { refusal = 0; equation = equationOf l }) (record { refusal = 4; equation = record { normal = pointOf (pos 0) (pos 0); distance = pos 0 } })
+pub equation-chosen : (k : ℕ) (l : Line) → Chosen (LineNear k l) (equationAnswer k l) (record { refusal = 0; equation = equationOf l }) (record { refusal = 4; equation = record { normal = pointOf (pos 0) (pos 0); distance = pos 0 } })
 unfolding equationAnswer
-equation-chosen l = chosen (isLineNear crossingLimit l) _ _ (line-near-iff crossingLimit l)
+equation-chosen k l = chosen (isLineNear k l) _ _ (line-near-iff k l)
 
-pub near-iff-both : (l : Line) (p : Point) → (areNear l p ≡ true) ↔ (LineNear crossingLimit l × Near crossingLimit p)
+pub equation-refused : (k : ℕ) (l : Line) → (equationAnswer k l .refusal ≡ 4) ↔ (LineNear k l → ⊥)
+equation-refused k l = chosen-exactly (λ v. v .refusal) refl refl (lit< tt) (equation-chosen k l)
+
+near-iff-both : (k : ℕ) (l : Line) (p : Point) → (areNear k l p ≡ true) ↔ (LineNear k l × Near k p)
 unfolding areNear
-near-iff-both l p = and-iff (isLineNear crossingLimit l) (isNear crossingLimit p) (line-near-iff crossingLimit l) (near-iff crossingLimit p)
+near-iff-both k l p = and-iff (isLineNear k l) (isNear k p) (line-near-iff k l) (near-iff k p)
 
-pub distance-chosen : (l : Line) (p : Point) → Chosen (LineNear crossingLimit l × Near crossingLimit p) (distanceAnswer l p) (record { refusal = 0; distance = distanceOf (equationOf l) p }) (record { refusal = 4; distance = pos 0 })
+pub distance-chosen : (k : ℕ) (l : Line) (p : Point) → Chosen (LineNear k l × Near k p) (distanceAnswer k l p) (record { refusal = 0; distance = distanceOf (equationOf l) p }) (record { refusal = 4; distance = pos 0 })
 unfolding distanceAnswer
-distance-chosen l p = chosen (areNear l p) _ _ (near-iff-both l p)
+distance-chosen k l p = chosen (areNear k l p) _ _ (near-iff-both k l p)
 
-pub side-chosen : (l : Line) (p : Point) (s : Side) → Chosen (LineNear crossingLimit l × Near crossingLimit p) (sideAnswer l p s) (record { refusal = 0; holds = isOnSide (equationOf l) p s }) (record { refusal = 4; holds = false })
+pub distance-refused : (k : ℕ) (l : Line) (p : Point) → (distanceAnswer k l p .refusal ≡ 4) ↔ (LineNear k l × Near k p → ⊥)
+distance-refused k l p = chosen-exactly (λ v. v .refusal) refl refl (lit< tt) (distance-chosen k l p)
+
+pub side-chosen : (k : ℕ) (l : Line) (p : Point) (s : Side) → Chosen (LineNear k l × Near k p) (sideAnswer k l p s) (record { refusal = 0; holds = isOnSide (equationOf l) p s }) (record { refusal = 4; holds = false })
 unfolding sideAnswer
-side-chosen l p s = chosen (areNear l p) _ _ (near-iff-both l p)
+side-chosen k l p s = chosen (areNear k l p) _ _ (near-iff-both k l p)
+
+pub side-refused : (k : ℕ) (l : Line) (p : Point) (s : Side) → (sideAnswer k l p s .refusal ≡ 4) ↔ (LineNear k l × Near k p → ⊥)
+side-refused k l p s = chosen-exactly (λ v. v .refusal) refl refl (lit< tt) (side-chosen k l p s)

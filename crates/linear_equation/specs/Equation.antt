@@ -1,6 +1,6 @@
 -- 01, linear_equation.rs: the equation of a line, the distance of a point, the side test, and the entries' answers.
 use mathlib.Core.Bool.{Bool, false, _&&_, cond}
-use Prim.Native.Nat.{_^_}
+use Prim.Native.Nat.{ℕ, _^_}
 use lib.IntN.{ℤ, pos, _-ℤ_}
 use lib.Signed.{leZ}
 use Rattle.whole.specs.Number.{Within}
@@ -8,7 +8,6 @@ use Rattle.shapes.specs.declared.Point.{Point}
 use Rattle.shapes.specs.declared.Line.{Line}
 use Rattle.shapes.specs.declared.Side.{Side}
 use Rattle.shapes.specs.declared.Side.the-variants.{Left, Right}
-use Rattle.shapes.specs.Limits.{crossingLimit}
 use Rattle.shapes.specs.Refusals.{coordinateRefused}
 use Rattle.shapes.specs.Shape.{Near, pointOf, isNear, isLineNear, quarterTurn, dotProduct, delta}
 use Rattle.linear_equation.specs.declared.LinearEquation.{LinearEquation}
@@ -36,23 +35,23 @@ pub record Tame (e : LinearEquation) : Type 0 where
   pub normal-near : Near (2 ^ 15) (e .normal)
   pub distance-within : Within (e .distance) (2 ^ 30)
 
--- ---- the entries' answers: refusal 4 for a coordinate beyond 1,023, and then 0 in every other field
+-- ---- the entries' answers, for a limit k: refusal 4 for a coordinate beyond it, and then 0 in every other field
 
-unfoldable pub equationAnswer : Line → Equated
-equationAnswer l =
-    cond (isLineNear crossingLimit l) (record { refusal = 0; equation = equationOf l })
+unfoldable pub equationAnswer : ℕ → Line → Equated
+equationAnswer k l =
+    cond (isLineNear k l) (record { refusal = 0; equation = equationOf l })
     (record { refusal = coordinateRefused; equation = record { normal = pointOf (pos 0) (pos 0); distance = pos 0 } })
 
 -- whether a line and a point are both inside the limit
-unfoldable pub areNear : Line → Point → Bool
-areNear l p = isLineNear crossingLimit l && isNear crossingLimit p
+unfoldable pub areNear : ℕ → Line → Point → Bool
+areNear k l p = isLineNear k l && isNear k p
 
-unfoldable pub distanceAnswer : Line → Point → Measured
-distanceAnswer l p =
-    cond (areNear l p) (record { refusal = 0; distance = distanceOf (equationOf l) p })
+unfoldable pub distanceAnswer : ℕ → Line → Point → Measured
+distanceAnswer k l p =
+    cond (areNear k l p) (record { refusal = 0; distance = distanceOf (equationOf l) p })
     (record { refusal = coordinateRefused; distance = pos 0 })
 
-unfoldable pub sideAnswer : Line → Point → Side → Tested
-sideAnswer l p s =
-    cond (areNear l p) (record { refusal = 0; holds = isOnSide (equationOf l) p s })
+unfoldable pub sideAnswer : ℕ → Line → Point → Side → Tested
+sideAnswer k l p s =
+    cond (areNear k l p) (record { refusal = 0; holds = isOnSide (equationOf l) p s })
     (record { refusal = coordinateRefused; holds = false })

@@ -1,5 +1,6 @@
 //! The equation of a line, how far a point lies from it, and on which side: the integer half of `linear_equation.rs`.
 ghost use mathlib.Core.Path.{_≡_};
+ghost use Rattle.shapes.specs.Limits.{crossingLimit};
 ghost use Rattle.linear_equation.specs.Equation.{areNear, equationAnswer, distanceAnswer, sideAnswer};
 
 pub mod inner; // inner.rt: the same without the tests
@@ -16,7 +17,7 @@ use shapes::refusals::COORDINATE;
 pub struct LinearEquation {
     /// Perpendicular to the line, as long as the line.
     pub normal: Point,
-    /// How far (0,0) lies from the line, times the length of the normal.
+    /// What the dot product of the normal with each point of the line is.
     pub distance: i64,
 }
 
@@ -40,7 +41,7 @@ pub struct Tested {
 
 /// The equation of a line. A coordinate beyond 1,023 is refused with 4.
 pub fn equation(line: Line) -> Equated
-    ensures { λ r. ⌜ r ≡ equationAnswer line ⌝ }
+    ensures { λ r. ⌜ r ≡ equationAnswer crossingLimit line ⌝ }
 {
     if is_line_near(line, CROSSING) {
         return Equated {
@@ -60,7 +61,7 @@ pub fn equation(line: Line) -> Equated
 /// How far a point lies from a line, times the line's length: negative on the left, positive on the right, 0 on the line.
 /// A coordinate beyond 1,023 is refused with 4.
 pub fn distance(line: Line, point: Point) -> Measured
-    ensures { λ r. ⌜ r ≡ distanceAnswer line point ⌝ }
+    ensures { λ r. ⌜ r ≡ distanceAnswer crossingLimit line point ⌝ }
 {
     if are_near(line, point) {
         return Measured {
@@ -77,7 +78,7 @@ pub fn distance(line: Line, point: Point) -> Measured
 /// Whether a point lies on the given side of a line. A point on the line lies on both sides; so does every point where the
 /// line's start is its end. A coordinate beyond 1,023 is refused with 4.
 pub fn check_side(line: Line, point: Point, side: Side) -> Tested
-    ensures { λ r. ⌜ r ≡ sideAnswer line point side ⌝ }
+    ensures { λ r. ⌜ r ≡ sideAnswer crossingLimit line point side ⌝ }
 {
     if are_near(line, point) {
         return Tested {
@@ -93,7 +94,7 @@ pub fn check_side(line: Line, point: Point, side: Side) -> Tested
 
 /// Whether a line and a point are both inside the limit.
 fn are_near(line: Line, point: Point) -> bool
-    ensures { λ r. ⌜ r ≡ areNear line point ⌝ }
+    ensures { λ r. ⌜ r ≡ areNear crossingLimit line point ⌝ }
 {
     if is_line_near(line, CROSSING) {
         is_near(point, CROSSING)

@@ -4,18 +4,18 @@ use mathlib.Core.Logic.{_↔_}
 use mathlib.Core.Bool.{true}
 use Prim.Native.Nat.{ℕ, _+_, _*_, _^_, _≤_}
 use lib.Dec.{T, ltb}
-use lib.IntN.{ℤ}
+use lib.IntN.{ℤ, _-ℤ_}
 use mir.Syntax.{w64}
 use mir.Val.{toZ, ofZ}
 use Rattle.whole.specs.Number.{Within, isWithin}
 use Rattle.whole.proofs.Bounds.{within-more, within-neg, within-add, within-sub, within-mul}
 use Rattle.whole.proofs.Laws.{true-within, within-true}
 use Rattle.whole.proofs.Machine.{Hold, hold}
-use Rattle.whole.proofs.Ring.{neg, _⊖_, _⊗_, _≈_, ring}
+use Rattle.whole.proofs.Ring.{neg, _⊕_, _⊖_, _⊗_, _≈_, ring}
 use Rattle.whole.proofs.Tests.{and-left, and-right}
 use Rattle.shapes.specs.declared.Point.{Point}
 use Rattle.shapes.specs.declared.Line.{Line}
-use Rattle.shapes.specs.Shape.{pointOf, Near, LineNear, isNear, isLineNear, plus, minus, quarterTurn, determinant, dotProduct, delta}
+use Rattle.shapes.specs.Shape.{pointOf, Near, LineNear, isNear, isLineNear, plus, minus, quarterTurn, determinant, dotProduct, delta, perpendicular}
 
 -- ---- a coordinate, in its bits
 
@@ -101,3 +101,12 @@ line-near-iff k l = (true-line-near k l, line-near-true)
 pub turn-determinant : (a b : Point) → determinant (quarterTurn a) (quarterTurn b) ≡ determinant a b
 unfolding determinant quarterTurn
 turn-determinant a b = ring 4 (λ ax ay bx by. neg ay ⊗ bx ⊖ ax ⊗ neg by ≈ ax ⊗ by ⊖ ay ⊗ bx) refl (a .x) (a .y) (b .x) (b .y)
+
+-- W1's two turns are opposite: a quarter turn of the perpendicular's delta is the line's own
+pub perpendicular-turned : (l : Line) → quarterTurn (delta (perpendicular l)) ≡ delta l
+unfolding quarterTurn delta perpendicular plus minus
+perpendicular-turned l =
+    simp (
+      ring 2 (λ s d. neg ((s ⊕ neg d) ⊖ s) ≈ d) refl (l .start .y) (l .end .x -ℤ l .start .x),
+      ring 2 (λ s d. (s ⊕ d) ⊖ s ≈ d) refl (l .start .x) (l .end .y -ℤ l .start .y),
+    )

@@ -1,5 +1,8 @@
-//! The numbers that bound the work, each once. The same table, for the contracts, is specs/Limits.antt: a proof holds each
-//! use of a number here to its name there.
+//! The numbers that bound the work, each once. The same table, for the contracts, is specs/Limits.antt. A contract cannot
+//! cite a constant, so each constant has a function that is proved to answer the number of that table.
+ghost use mathlib.Core.Path.{_≡_};
+ghost use lib.IntN.{pos};
+ghost use Rattle.shapes.specs.Limits.{pointLimit, crossingLimit, widthLimit, routePoints, cornerLimit, boardRuns};
 
 /// A route point's coordinate is from -511 to 511.
 pub const POINT: u32 = 511;
@@ -18,3 +21,39 @@ pub const CORNER: u32 = 4095;
 
 /// A board holds at most 32 runs.
 pub const BOARD_RUNS: usize = 32;
+
+fn point() -> u32
+    ensures { λ r. ⌜ r ≡ pointLimit ⌝ }
+{
+    POINT
+}
+
+fn crossing() -> u32
+    ensures { λ r. ⌜ r ≡ crossingLimit ⌝ }
+{
+    CROSSING
+}
+
+fn width() -> i64
+    ensures { λ r. ⌜ r ≡ pos widthLimit ⌝ }
+{
+    WIDTH
+}
+
+fn route_points() -> usize
+    ensures { λ r. ⌜ r ≡ routePoints ⌝ }
+{
+    ROUTE_POINTS
+}
+
+fn corner() -> u32
+    ensures { λ r. ⌜ r ≡ cornerLimit ⌝ }
+{
+    CORNER
+}
+
+fn board_runs() -> usize
+    ensures { λ r. ⌜ r ≡ boardRuns ⌝ }
+{
+    BOARD_RUNS
+}

@@ -1,4 +1,8 @@
-//! What each refusal's number says. 0 is none.
+//! What each refusal's number says. 0 is none. Each constant has a function that is proved to answer the number of
+//! specs/Refusals.antt.
+ghost use mathlib.Core.Path.{_≡_};
+ghost use Rattle.shapes.specs.Refusals.{formRefused, oddRefused, pointsRefused, widthRefused, coordinateRefused};
+ghost use Rattle.shapes.specs.Refusals.{cornerRefused, rowRefused, columnRefused, roomRefused};
 
 /// A route file's form is wrong.
 pub const FORM: u64 = 9;
@@ -26,3 +30,57 @@ pub const COLUMN: u64 = 7;
 
 /// No room.
 pub const ROOM: u64 = 8;
+
+fn form() -> u64
+    ensures { λ r. ⌜ r ≡ formRefused ⌝ }
+{
+    FORM
+}
+
+fn odd() -> u64
+    ensures { λ r. ⌜ r ≡ oddRefused ⌝ }
+{
+    ODD
+}
+
+fn points() -> u64
+    ensures { λ r. ⌜ r ≡ pointsRefused ⌝ }
+{
+    POINTS
+}
+
+fn width() -> u64
+    ensures { λ r. ⌜ r ≡ widthRefused ⌝ }
+{
+    WIDTH
+}
+
+fn coordinate() -> u64
+    ensures { λ r. ⌜ r ≡ coordinateRefused ⌝ }
+{
+    COORDINATE
+}
+
+fn corner() -> u64
+    ensures { λ r. ⌜ r ≡ cornerRefused ⌝ }
+{
+    CORNER
+}
+
+fn row() -> u64
+    ensures { λ r. ⌜ r ≡ rowRefused ⌝ }
+{
+    ROW
+}
+
+fn column() -> u64
+    ensures { λ r. ⌜ r ≡ columnRefused ⌝ }
+{
+    COLUMN
+}
+
+fn room() -> u64
+    ensures { λ r. ⌜ r ≡ roomRefused ⌝ }
+{
+    ROOM
+}

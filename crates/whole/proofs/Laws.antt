@@ -1,8 +1,8 @@
 -- What 01 says in words of the definitions of specs/: a rounded quotient is the nearest whole number, halves away from
 -- zero, and no other is; a test of bounds holds exactly within them. Assumes nothing.
 use mathlib.Core.Path.{_≡_, refl, sym, ap, _∙_}
-use mathlib.Core.Logic.{_≢_, _⊎_, ⊎-elim}
-use mathlib.Core.Bool.{Bool, true, false}
+use mathlib.Core.Logic.{_≢_, _⊎_, inl, inr, ⊎-elim}
+use mathlib.Core.Bool.{Bool, true, false, cond}
 use Prim.Native.Nat.{ℕ, zero, suc, _+_, _*_, _-_, _/_, _≤_, _<_, zero-le}
 use native.Mathlib.Nat.{suc-add, mul-le-mul-left, mul-le-mul-right, mul-lt-mul-of-pos-right, le-of-mul-le-mul-right, lt-of-mul-lt-mul-right, eq-of-mul-eq-mul-right, div-add-mod', mod-lt}
 use native.Mathlib.Omega.{arith}
@@ -32,10 +32,19 @@ within-true {n} {z} w = le-leb (natAbs z) n (w .bound)
 
 -- ---- the lesser and the greater
 
+one-of : (t : Bool) (a b : ℤ) → (cond t a b ≡ b) ⊎ (cond t a b ≡ a)
+one-of true a b = inr refl
+one-of false a b = inl refl
+
 lesser-by : (a b : ℤ) (t : Bool) → ltZ b a ≡ t → (lesser a b ≤ℤ a) × (lesser a b ≤ℤ b)
 unfolding lesser
 lesser-by a b true e = rw e (omega linear)
 lesser-by a b false e = rw e (omega linear)
+
+-- it is one of the two
+pub lesser-one : (a b : ℤ) → (lesser a b ≡ a) ⊎ (lesser a b ≡ b)
+unfolding lesser
+lesser-one a b = one-of (ltZ b a) b a
 
 pub lesser-le : (a b : ℤ) → (lesser a b ≤ℤ a) × (lesser a b ≤ℤ b)
 lesser-le a b = lesser-by a b (ltZ b a) refl
@@ -44,6 +53,10 @@ greater-by : (a b : ℤ) (t : Bool) → ltZ a b ≡ t → (a ≤ℤ greater a b)
 unfolding greater
 greater-by a b true e = rw e (omega linear)
 greater-by a b false e = rw e (omega linear)
+
+pub greater-one : (a b : ℤ) → (greater a b ≡ a) ⊎ (greater a b ≡ b)
+unfolding greater
+greater-one a b = one-of (ltZ a b) b a
 
 pub le-greater : (a b : ℤ) → (a ≤ℤ greater a b) × (b ≤ℤ greater a b)
 le-greater a b = greater-by a b (ltZ a b) refl
@@ -94,7 +107,7 @@ some-abs (pos zero) h = absurd (h refl)
 some-abs (pos (suc n)) h = omega arith
 some-abs (negsuc n) h = omega arith
 
--- 01, demand 2: the nearest whole number, halves away from zero
+-- demand 2: the nearest whole number, halves away from zero
 pub rounded-nearest : (n d : ℤ) → d ≢ pos 0 → Nearest n d (rounded n d)
 rounded-nearest n d h =
     let m = natAbs n in
@@ -163,7 +176,7 @@ nearest-unique n (negsuc e) x y p q = unique-at (negℤ n) (suc e) x y (mirrored
 
 -- ---- the nearest to a fraction, whichever way it is written
 
--- from |b| |d| = |a| |q|, for the two gaps a and b
+-- n / d and p / q are one fraction: its gap to x, its size and x itself, times |d| and times |q|
 module _ (n d p q x : ℤ) (same : p *ℤ d ≡ n *ℤ q) where
   gaps : natAbs (x *ℤ q -ℤ p) * natAbs d ≡ natAbs (x *ℤ d -ℤ n) * natAbs q
   gaps =

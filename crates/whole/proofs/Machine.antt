@@ -111,5 +111,8 @@ eqZ-no (negsuc a) (negsuc b) h = ne-eqb a b (λ e. h (ap negsuc e))
 pub eq-hold : {a b m n : ℕ} {x y : ℤ} → Hold a x m → Hold b y n → a ≡ b → x ≡ y
 eq-hold p q e = sym (p .is) ∙ (ap (toZ w64) e ∙ q .is)
 
+pub eq-back : {x y : ℤ} → SFits w64 x → SFits w64 y → ofZ w64 x ≡ ofZ w64 y → x ≡ y
+eq-back f g e = sym (toZ-ofZ f) ∙ (ap (toZ w64) e ∙ toZ-ofZ g)
+
 pub ne-back : {x y : ℤ} → (ofZ w64 x ≡ ofZ w64 y → ⊥) → x ≡ y → ⊥
 ne-back h e = h (ap (ofZ w64) e)

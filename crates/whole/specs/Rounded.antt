@@ -13,7 +13,7 @@ half d = pos (natAbs d / 2)
 unfoldable pub rounded : ℤ → ℤ → ℤ
 rounded n d = quotZ (cond (ltZ n (pos 0)) (n -ℤ half d) (n +ℤ half d)) d
 
--- what 01's demand 2 says of it in words: x is the nearest whole number to n / d, and at half way it lies away from zero
+-- what demand 2 says of it in words: x is the nearest whole number to n / d, and at half way it lies away from zero
 pub record Nearest (n d x : ℤ) : Type 0 where
   pub near : 2 * natAbs (x *ℤ d -ℤ n) ≤ natAbs d
   pub away : 2 * natAbs (x *ℤ d -ℤ n) ≡ natAbs d → natAbs n < natAbs (x *ℤ d)

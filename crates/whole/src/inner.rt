@@ -45,7 +45,7 @@ pub fn size(x: i64) -> u64
     x as u64
 }
 
-/// The absolute value of a number that is not the least of all.
+/// The absolute value of a number within 2^61.
 pub fn magnitude(x: i64) -> i64
     requires { ⌜ Within x (2 ^ 61) ⌝ }
     ensures { λ r. ⌜ r ≡ pos (natAbs x) ⌝ }
@@ -53,7 +53,7 @@ pub fn magnitude(x: i64) -> i64
     if x < 0 { -x } else { x }
 }
 
-/// The nearest whole number to n / d, halves away from zero.
+/// The nearest whole number to n / d, halves away from zero, for numbers within 2^61 and d not 0.
 pub fn rounded(n: i64, d: i64) -> i64
     requires { ⌜ Within n (2 ^ 61) ⌝ }
     requires { ⌜ Within d (2 ^ 61) ⌝ }

@@ -1,12 +1,13 @@
 use mathlib.Core.Path.{_≡_, sym, ap, _∙_}
 use mathlib.Core.Bool.{true}
 use borrow.Author.Needs.{needs}
+use Rattle.shapes.specs.Limits.{crossingLimit}
 use Rattle.intersection_params.specs.Crossing.{areNear, crossingValues, crossingAnswer}
 use Rattle.intersection_params.proofs.Room.{near-first, near-second}
 use Rattle.intersection_params.proofs.crossing.Statement.{statement}
 use Rattle.intersection_params.proofs.crossing.Tie as tie
 
-inside : (c : tie.Then1) → areNear (c .before .before .args .first) (c .before .before .args .second) ≡ true
+inside : (c : tie.Then1) → areNear crossingLimit (c .before .before .args .first) (c .before .before .args .second) ≡ true
 inside c = sym (c .before .are-near .ensures) ∙ c .if1 .taken
 
 are-near-requires : tie.Need-are-near-requires

@@ -1,25 +1,26 @@
 use mathlib.Core.Path.{_≡_, sym, _∙_, ap}
 use mathlib.Core.Bool.{true}
 use borrow.Author.Needs.{needs}
+use Rattle.shapes.specs.Limits.{crossingLimit}
 use Rattle.linear_equation.specs.Equation.{areNear, isOnSide, sideAnswer}
-use Rattle.linear_equation.proofs.Laws.{tame, line-room, point-room, near-line, near-point}
+use Rattle.linear_equation.proofs.Laws.{tame, near-line, near-point}
 use Rattle.linear_equation.proofs.check_side.Statement.{statement}
 use Rattle.linear_equation.proofs.check_side.Tie as tie
 
-inside : (c : tie.Then1) → areNear (c .before .before .args .line) (c .before .before .args .point) ≡ true
+inside : (c : tie.Then1) → areNear crossingLimit (c .before .before .args .line) (c .before .before .args .point) ≡ true
 inside c = sym (c .before .are-near .ensures) ∙ c .if1 .taken
 
 are-near-requires : tie.Need-are-near-requires
 are-near-requires c κs = search needs
 
 from-line-requires : tie.Need-from-line-requires
-from-line-requires c κs = let a = c .before .before .args in line-room (a .line) (near-line (a .line) (a .point) (inside c))
+from-line-requires c κs = let a = c .before .before .args in near-line (a .line) (a .point) (inside c)
 
 check-side-requires : tie.Need-check-side-requires
 check-side-requires c κs =
     let a = c .before .before .before .args in
     let e = inside (c .before) in
-    (rw (c .from-line .ensures) (tame (line-room (a .line) (near-line (a .line) (a .point) e))), point-room (a .point) (near-point (a .line) (a .point) e))
+    (rw (c .from-line .ensures) (tame (near-line (a .line) (a .point) e)), near-point (a .line) (a .point) e)
 
 returns : tie.Need-returns
 unfolding sideAnswer
