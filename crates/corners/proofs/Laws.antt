@@ -3,7 +3,7 @@ use mathlib.Core.Path.{_≡_, refl, ap, _∙_}
 use mathlib.Core.Bool.{Bool, true, false}
 use lib.IntN.{pos, natAbs, _*ℤ_, zero-*ℤ, *ℤ-zero}
 use lib.Signed.{ltZ}
-use Rattle.whole.specs.Number.{isWithin}
+use Rattle.whole.specs.Number.{isWithin, lesser, greater}
 use Rattle.whole.specs.Rounded.{rounded}
 use Rattle.shapes.specs.declared.Point.{Point}
 use Rattle.shapes.specs.declared.Line.{Line}
@@ -15,6 +15,9 @@ use Rattle.intersection_params.specs.declared.Intersection.the-variants.{Coline
 use Rattle.intersection_params.specs.Crossing.{cramerOf, solutionOf, sideOf, drawnOf, crossingOf, nearlyColinear, areNear, crossingValues, crossingAnswer}
 use Rattle.intersection_params.specs.Words.{bend}
 use Rattle.intersection_params.proofs.Laws.{determinant-directions, colinear-exactly, crossing-chosen, nearly-chosen}
+use Rattle.board.specs.Runs.{withRun, joined, follows, isAscending, total}
+use Rattle.board.specs.Boards.{live, boardOf, isSound, freshRefusal, begun, isInside, withSpan, offerRefusal, withOffer, offered, listRefusal, listed}
+use Rattle.board.specs.Histories.{after, reached}
 use Rattle.corners.specs.Cases.{nearly, Holds, Every, cases}
 
 -- a line from (3,3) to (3,3) has no direction
@@ -45,6 +48,6 @@ unfolding Holds nearlyColinear
 by-deltas p q t e a b ha hb da db = nearly-chosen crossingLimit a b .holds (ha, hb) ∙ simp (determinant-directions a b, da, db, e)
 
 pub corners : Every cases
-unfolding cases Every Holds crossingAnswer crossingValues areNear isLineNear isNear isWithin crossingOf drawnOf sideOf rounded solutionOf cramerOf equationOf determinant dotProduct quarterTurn delta minus sideAnswer pointNear isOnSide distanceOf
+unfolding cases Every Holds crossingAnswer crossingValues areNear isLineNear isNear isWithin crossingOf drawnOf sideOf rounded solutionOf cramerOf equationOf determinant dotProduct quarterTurn delta minus sideAnswer pointNear isOnSide distanceOf reached after begun offered withOffer withSpan withRun joined isInside follows offerRefusal isSound isAscending live boardOf listed listRefusal total freshRefusal greater lesser
 corners =
-    (refl, (refl, (refl, (refl, (refl, (with-any, (by-deltas _ _ false refl, (by-deltas _ _ true refl, ((refl, refl), ((refl, refl), tt))))))))))
+    (refl, (refl, (refl, (refl, (refl, (with-any, (by-deltas _ _ false refl, (by-deltas _ _ true refl, ((refl, refl), ((refl, refl), ((refl, refl), ((refl, refl), tt))))))))))))

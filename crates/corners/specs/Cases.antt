@@ -2,7 +2,9 @@
 use mathlib.Core.Path.{_≡_}
 use mathlib.Core.Bool.{Bool, true, false}
 use mathlib.Core.List.{List, [], _∷_}
+use Prim.Native.Nat.{ℕ, _*_}
 use lib.IntN.{ℤ, pos, negsuc}
+use lib.ListN.{length}
 use Rattle.shapes.specs.declared.Point.{Point}
 use Rattle.shapes.specs.declared.Line.{Line}
 use Rattle.shapes.specs.declared.Side.the-variants.{Left, Right}
@@ -12,6 +14,10 @@ use Rattle.linear_equation.specs.Equation.{sideAnswer}
 use Rattle.intersection_params.specs.declared.Intersection.{Intersection}
 use Rattle.intersection_params.specs.declared.Intersection.the-variants.{At, Colinear}
 use Rattle.intersection_params.specs.Crossing.{crossingValues, crossingAnswer, nearlyAnswer}
+use Rattle.board.specs.declared.Run.{Run}
+use Rattle.board.specs.Runs.{runOf}
+use Rattle.board.specs.Boards.{listed}
+use Rattle.board.specs.Histories.{Event, offers, boardAfter, runsAfter}
 
 pub data Case : Type 0 where
   -- two lines and their crossing
@@ -20,8 +26,15 @@ pub data Case : Type 0 where
   crossingWithAny : Line → Intersection → Case
   -- two deltas, and whether lines that have them run nearly the same way
   nearly : Point → Point → Bool → Case
+  -- offers to a fresh board of row 0, and the runs and the total that it lists then
+  board : List Run → List Run → ℤ → Case
   -- a line and a point, and whether the point is on the left, and on the right
   sides : Line → Point → Bool → Bool → Case
+
+-- offers of a row, one after the other
+abbrev pub offersOf : List Run → List Event
+offersOf [] = []
+offersOf (r ∷ rs) = offers (record { row = pos 0; start = r .start; end = r .end }) ∷ offersOf rs
 
 unfoldable pub Holds : Case → Type 0
 Holds (crossing a b r) = crossingAnswer crossingLimit a b ≡ crossingValues r
@@ -29,6 +42,8 @@ Holds (crossingWithAny a r) =
     (b : Line) → LineNear crossingLimit b → (crossingAnswer crossingLimit a b ≡ crossingValues r) × (crossingAnswer crossingLimit b a ≡ crossingValues r)
 Holds (nearly p q t) =
     (a b : Line) → LineNear crossingLimit a → LineNear crossingLimit b → delta a ≡ p → delta b ≡ q → nearlyAnswer crossingLimit a b ≡ record { refusal = 0; holds = t }
+Holds (board rs listing n) =
+    (runsAfter (pos 0) (offersOf rs) ≡ listing) × (listed (boardAfter (pos 0) (offersOf rs)) (2 * length listing) .total ≡ n)
 Holds (sides l p left right) =
     (sideAnswer crossingLimit l p Left ≡ record { refusal = 0; holds = left }) × (sideAnswer crossingLimit l p Right ≡ record { refusal = 0; holds = right })
 
@@ -40,6 +55,10 @@ Every (c ∷ cs) = Holds c × Every cs
 -- the line from (x, y) to (u, v)
 abbrev line : ℤ → ℤ → ℤ → ℤ → Line
 line x y u v = lineOf (pointOf x y) (pointOf u v)
+
+-- the columns from s to e, e not included
+abbrev run : ℕ → ℕ → Run
+run s e = runOf (pos s) (pos e)
 
 unfoldable pub cases : List Case
 cases =
@@ -61,4 +80,8 @@ cases =
     -- P9
     ∷ sides (line (pos 0) (pos 0) (pos 10) (pos 0)) (pointOf (pos 5) (negsuc 0)) true false
     ∷ sides (line (pos 0) (pos 0) (pos 10) (pos 0)) (pointOf (pos 5) (pos 0)) true true
+    -- P11
+    ∷ board (run 0 2 ∷ run 4 6 ∷ run 2 4 ∷ []) (run 0 6 ∷ []) (pos 6)
+    -- P12
+    ∷ board (run 0 2 ∷ run 3 4 ∷ []) (run 0 2 ∷ run 3 4 ∷ []) (pos 3)
     ∷ []

@@ -65,13 +65,27 @@ pub fn say_number(x: i64) {
     if x < 0 {
         say(b"-");
     }
-    io::print_decimal(STDOUT_FILENO, size(x));
+    say_count(size(x));
+}
+
+/// Writes a count in decimal.
+pub fn say_count(n: u64) {
+    io::print_decimal(STDOUT_FILENO, n);
 }
 
 /// Writes a space and a number.
 pub fn say_next(x: i64) {
     say(b" ");
     say_number(x);
+}
+
+/// Writes a space and a number, for each number of a list.
+pub fn say_numbers(numbers: &[i64]) {
+    let mut i = 0;
+    while i < numbers.len() {
+        say_next(numbers[i]);
+        i += 1;
+    }
 }
 
 /// Writes the two coordinates of a point.
@@ -92,5 +106,5 @@ pub fn say_bool(b: bool) {
 /// Writes `refused` and the refusal's number.
 pub fn say_refused(number: u64) {
     say(b"refused ");
-    io::print_decimal(STDOUT_FILENO, number);
+    say_count(number);
 }

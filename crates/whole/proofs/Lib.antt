@@ -1,4 +1,5 @@
 pub mod Bounds
+pub mod Columns
 pub mod Laws
 pub mod Linear
 pub mod Machine

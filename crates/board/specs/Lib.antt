@@ -1,0 +1,4 @@
+pub mod Boards
+pub mod Fronts
+pub mod Histories
+pub mod Runs
