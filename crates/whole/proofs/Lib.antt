@@ -5,4 +5,5 @@ pub mod Linear
 pub mod Machine
 pub mod Products
 pub mod Ring
+pub mod Steps
 pub mod Tests
