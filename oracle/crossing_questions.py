@@ -9,10 +9,14 @@ from math import gcd
 
 import exact
 import smallest
+from asking import DIRECTIONS, FAR, listed, one_changed, point_within, scaled
+from asking import placed as placed_within
+from plane import crossing_of, determinant, dot, plus
 
 SEED = 8556422127
 LIMIT = exact.CROSSING_LIMIT
-KINDS = "edscn"
+# The points that each kind takes.
+KINDS = {"e": 2, "d": 3, "s": 3, "c": 4, "n": 4}
 TWO_LINES = "cn"
 
 # From document 01, "Corners with numbers". P7 asks for any second line: three are taken.
@@ -31,34 +35,12 @@ WORKED = [
     ("s 0 0 10 0 5 0", "true true"),
 ]
 
-FAR = (
-    1024,
-    -1024,
-    32768,
-    -32769,
-    2147483647,
-    -2147483648,
-    4294967296,
-    999999999999999999,
-    -999999999999999999,
-)
-
-# One delta of each octant, and the axes and diagonals between them.
-DIRECTIONS = [
-    (s * x, t * y) for x, y in ((7, 3), (3, 7)) for s, t in product((1, -1), repeat=2)
-] + [(x, y) for x, y in product((-5, 0, 5), repeat=2) if (x, y) != (0, 0)]
-
-
 def ask(kind, *points):
-    return exact.words(kind, *(coordinate for point in points for coordinate in point))
+    return exact.words(kind, *exact.flat(points))
 
 
-def plus(p, q, times=1):
-    return p[0] + times * q[0], p[1] + times * q[1]
-
-
-def scaled(p, times):
-    return times * p[0], times * p[1]
+def placed(rng, delta, size=LIMIT):
+    return placed_within(rng, delta, size)
 
 
 def reach(p):
@@ -70,27 +52,11 @@ def mirrored(points):
     return [(y, x) for x, y in points]
 
 
-def point_within(rng, size):
-    return rng.randint(-size, size), rng.randint(-size, size)
-
-
-def placed(rng, delta, size=LIMIT):
-    """A line of the given delta somewhere inside the box, as start and end."""
-    start = tuple(rng.randint(max(-size, -size - d), min(size, size - d)) for d in delta)
-    return start, plus(start, delta)
-
-
-def points_of(kind):
-    return exact.KINDS[kind][0]
-
-
-def random_in_boxes(rng):
+def random_within(rng, size):
     counts = {"e": 25, "d": 40, "s": 40, "c": 120, "n": 60}
-    for size in (3, 10, 100, LIMIT):
-        for kind in KINDS:
-            for _ in range(counts[kind]):
-                points = [point_within(rng, size) for _ in range(points_of(kind))]
-                yield f"random within {size}", ask(kind, *points)
+    for kind in KINDS:
+        for _ in range(counts[kind]):
+            yield ask(kind, *(point_within(rng, size) for _ in range(KINDS[kind])))
 
 
 def at_the_limits(rng):
@@ -98,7 +64,7 @@ def at_the_limits(rng):
     counts = {"e": 30, "d": 50, "s": 50, "c": 150, "n": 80}
     for kind in KINDS:
         for _ in range(counts[kind]):
-            points = [(rng.choice(values), rng.choice(values)) for _ in range(points_of(kind))]
+            points = [(rng.choice(values), rng.choice(values)) for _ in range(KINDS[kind])]
             yield ask(kind, *points)
 
 
@@ -188,7 +154,7 @@ def lines_crossing_at(rng, doubled, turn, size):
     while True:
         first = line_through(rng, doubled, size)
         second = line_through(rng, doubled, size)
-        found = exact.crossing_of(first, second)
+        found = crossing_of(first, second)
         if found is not None and found[2] * turn > 0:
             return *first, *second
 
@@ -266,8 +232,8 @@ def near_colinear_boundary(rng):
 def beside(delta):
     """The steps from a line of this delta to the next row of whole points, left and right."""
     steps = product(range(-reach(delta), reach(delta) + 1), repeat=2)
-    left = [step for step in steps if exact.determinant(delta, step) < 0]
-    step = min(left, key=lambda s: (-exact.determinant(delta, s), exact.dot(s, s)))
+    left = [step for step in steps if determinant(delta, step) < 0]
+    step = min(left, key=lambda s: (-determinant(delta, s), dot(s, s)))
     return step, scaled(step, -1)
 
 
@@ -304,18 +270,16 @@ def single_positions():
         "c": (3, -5, 17, 11, -6, 8, 12, -9),
         "n": (3, -5, 17, 11, -6, 8, 12, -9),
     }
+    values = (LIMIT, -LIMIT, LIMIT + 1, -LIMIT - 1, *FAR)
     for kind in KINDS:
-        for position in range(len(base[kind])):
-            for value in (LIMIT, -LIMIT, *FAR):
-                numbers = list(base[kind])
-                numbers[position] = value
-                yield exact.words(kind, *numbers)
+        for numbers in one_changed(base[kind], values):
+            yield exact.words(kind, *numbers)
 
 
 def all_positions():
     """All coordinates far beyond the limit, also such that products vanish in 64 bits."""
     for kind, value in product(KINDS, (LIMIT + 1, 4294967296, 999999999999999999)):
-        numbers = [value if i % 3 else -value for i in range(2 * points_of(kind))]
+        numbers = [value if i % 3 else -value for i in range(2 * KINDS[kind])]
         yield exact.words(kind, *numbers)
 
 
@@ -344,10 +308,13 @@ def questions():
         "all positions past the limit": all_positions(),
         "first overflows": first_overflows(),
     }
-    listed = [(name, question) for name, asked in classes.items() for question in asked]
-    listed += random_in_boxes(rng)
-    # A question keeps the first class that asks it.
-    once = {}
-    for name, question in listed:
-        once.setdefault(question, name)
-    return [(name, question) for question, name in once.items()]
+    for size in (3, 10, 100, LIMIT):
+        classes[f"random within {size}"] = random_within(rng, size)
+    return listed(classes)
+
+
+def random_question(rng):
+    kind = rng.choice(list(KINDS))
+    least, most = rng.choice(((0, 3), (0, 10), (0, 30), (0, 100), (0, LIMIT), (600, LIMIT)))
+    sizes = (rng.randint(least, most) for _ in range(2 * KINDS[kind]))
+    return exact.words(kind, *(rng.choice((-1, 1)) * size for size in sizes))

@@ -1,106 +1,273 @@
-"""The same questions answered from document 01 alone, over exact numbers.
+"""The questions answered from document 01, over exact numbers, with its limits and refusals.
 
-Where the Rust solves by Cramer's rule, this goes along the first line, start + t * delta, to the
-true crossing as fractions, and rounds that. Import `answer`, or run it as a filter.
+The rules stand in `plane.py`, `strokes.py`, `joins.py` and `segments.py`; here is what each kind of
+question asks for. Import `answer`, or run it as a filter.
 """
 
-import math
 import sys
-from fractions import Fraction
+
+import joins
+import segments
+import strokes
+from plane import delta_of, distance_of, nearly_colinear, rounded_crossing
 
 CROSSING_LIMIT = 1023
-COORDINATE_REFUSED = "refused 4"
+ROUTE_LIMIT = 511
+CORNER_LIMIT = 4095
+WIDTH_LIMIT = 64
+# The numbers that the lent list of a replay holds, and the kinds that write to it.
+LENT_LIST = 4096
+LISTED = "pt"
 
 
-def minus(p, q):
-    return p[0] - q[0], p[1] - q[1]
+class Refused(Exception):
+    """Carries a number of document 01's table."""
 
 
-def determinant(u, v):
-    return u[0] * v[1] - u[1] * v[0]
+def refuse(number, when):
+    if when:
+        raise Refused(number)
 
 
-def dot(u, v):
-    return u[0] * v[0] + u[1] * v[1]
+def beyond(limit, numbers):
+    return any(abs(number) > limit for number in numbers)
 
 
-def nearest(value):
-    """The nearest whole number, halves away from zero."""
-    size = math.floor(abs(value) + Fraction(1, 2))
-    return -size if value < 0 else size
-
-
-def distance_of(line, point):
-    """Twice the signed area of the triangle start, end, point; negative on the left."""
-    start, end = line
-    return determinant(minus(end, start), minus(point, start))
-
-
-def crossing_of(first, second):
-    """The true crossing as two fractions and the determinant of the deltas; None if parallel."""
-    delta, other = minus(first[1], first[0]), minus(second[1], second[0])
-    turn = determinant(delta, other)
-    if turn == 0:
-        return None
-    t = Fraction(determinant(minus(second[0], first[0]), other), turn)
-    (x, y) = first[0]
-    return x + t * delta[0], y + t * delta[1], turn
+def paired(numbers):
+    return list(zip(numbers[::2], numbers[1::2]))
 
 
 def words(*values):
     return " ".join(str(value) for value in values)
 
 
+def flat(points):
+    return [coordinate for point in points for coordinate in point]
+
+
 def truth(value):
     return "true" if value else "false"
 
 
-def equation(start, end):
+# Crossings.
+
+
+def points_to_cross(numbers):
+    refuse(4, beyond(CROSSING_LIMIT, numbers))
+    return paired(numbers)
+
+
+def line_and_point(numbers):
+    start, end, point = points_to_cross(numbers)
+    return (start, end), point
+
+
+def two_lines(numbers):
+    a, b, c, d = points_to_cross(numbers)
+    return (a, b), (c, d)
+
+
+def equation(*numbers):
     # The origin lies at minus this distance; the quarter turn of the delta is W1's.
-    dx, dy = minus(end, start)
+    start, end = points_to_cross(numbers)
+    dx, dy = delta_of((start, end))
     return words(-dy, dx, -distance_of((start, end), (0, 0)))
 
 
-def distance(start, end, point):
-    return words(distance_of((start, end), point))
+def distance(*numbers):
+    return words(distance_of(*line_and_point(numbers)))
 
 
-def sides(start, end, point):
-    value = distance_of((start, end), point)
+def sides(*numbers):
+    value = distance_of(*line_and_point(numbers))
     return words(truth(value <= 0), truth(value >= 0))
 
 
-def crossing(a, b, c, d):
-    found = crossing_of((a, b), (c, d))
+def crossing(*numbers):
+    found = rounded_crossing(*two_lines(numbers))
     if found is None:
         return "Colinear"
-    x, y, turn = found
-    return words(nearest(x), nearest(y), "Left" if turn < 0 else "Right")
+    point, side = found
+    return words(*point, side)
 
 
-def nearly_colinear(a, b, c, d):
-    delta, other = minus(b, a), minus(d, c)
-    return truth(determinant(delta, other) ** 2 < abs(dot(delta, other)))
+def nearly_colinear_lines(*numbers):
+    return truth(nearly_colinear(*two_lines(numbers)))
 
 
-# Kind: how many points it takes, the limit of their coordinates, who answers.
+# Thick lines.
+
+
+def refuse_stroke(width, coordinates):
+    refuse(3, not 0 <= width <= WIDTH_LIMIT)
+    refuse(4, beyond(ROUTE_LIMIT, coordinates))
+
+
+def stroke(ax, ay, bx, by, width, offset=0):
+    refuse_stroke(width, (ax, ay, bx, by))
+    return ((ax, ay), (bx, by)), width, strokes.OFFSETS[offset]
+
+
+def extents(*numbers):
+    left, right = strokes.extents(*stroke(*numbers))
+    return words(*flat(left + right))
+
+
+def parallels(*numbers):
+    found = list(strokes.parallels(*stroke(*numbers)))
+    return words(len(found), *flat((*p.point, p.error, int(p.extra)) for p in found))
+
+
+def thick_points(*numbers):
+    line, width, _ = stroke(*numbers)
+    found = list(strokes.thick_points(line, width))
+    return words(len(found), *flat(found))
+
+
+# Joins.
+
+
+def refuse_corners(*found):
+    refuse(5, any(beyond(CORNER_LIMIT, flat(join.corners())) for join in found))
+
+
+def join_words(join):
+    refuse_corners(join)
+    return words(join.kind, *flat(join.corners()))
+
+
+def start_join(*numbers):
+    (a, b), width, offset = stroke(*numbers)
+    return join_words(joins.start(a, b, width, offset))
+
+
+def end_join(*numbers):
+    (a, b), width, offset = stroke(*numbers)
+    return join_words(joins.end(a, b, width, offset))
+
+
+def join(*numbers):
+    *coordinates, width, offset = numbers
+    refuse_stroke(width, coordinates)
+    a, b, c = paired(coordinates)
+    return join_words(joins.between(a, b, c, width, strokes.OFFSETS[offset]))
+
+
+def handed_in(kind, *numbers):
+    """A join from the number of its kind and its corners."""
+    a, b, c, d = paired(numbers)
+    return joins.Join(joins.KINDS[kind], joins.Corners(a, b), joins.Corners(c, d))
+
+
+def line_words(lines):
+    return words(len(lines), *(words(*flat(line)) for line in lines))
+
+
+def lines_of_join(*numbers):
+    found = handed_in(*numbers)
+    refuse_corners(found)
+    filler = joins.filler_line(found)
+    parts = (
+        words(*flat(filler)) if filler else "none",
+        line_words(joins.start_cap_lines(found)),
+        line_words(joins.end_cap_lines(found)),
+        truth(joins.is_degenerate(found)),
+    )
+    return " | ".join(parts)
+
+
+# Segments and spans.
+
+
+def segment(*numbers):
+    found = segments.Segment(handed_in(*numbers[:9]), handed_in(*numbers[9:]))
+    refuse_corners(*found)
+    return found
+
+
+def parts_of_segment(*numbers):
+    found = segment(*numbers)
+    parts = (
+        truth(found.is_skeleton()),
+        words(*flat(found.right_edge() + found.left_edge())),
+        words(*found.edges_bounding_box()),
+        line_words(found.perimeter()),
+    )
+    return " | ".join(parts)
+
+
+def span_of_segment(*numbers):
+    *corners, row = numbers
+    found = segment(*corners)
+    refuse(6, beyond(CORNER_LIMIT, [row]))
+    return words(*found.span(row))
+
+
+def refuse_columns(*spans):
+    """An end is not included, so that it may be one beyond the last column."""
+    for start, end in spans:
+        columns = () if segments.is_empty((start, end)) else (start, end - 1)
+        refuse(7, beyond(CORNER_LIMIT, columns))
+
+
+def met_span(ax, ay, bx, by, row, *span):
+    refuse(4, beyond(CORNER_LIMIT, (ax, ay, bx, by)))
+    refuse(6, beyond(CORNER_LIMIT, [row]))
+    refuse_columns(span)
+    return words(*segments.meet(span, row, ((ax, ay), (bx, by))))
+
+
+def extended_span(row, start, end, other_row, other_start, other_end):
+    refuse(6, beyond(CORNER_LIMIT, (row, other_row)) or row != other_row)
+    span, other = (start, end), (other_start, other_end)
+    refuse_columns(span, other)
+    was_extended, after = segments.try_extend(span, other)
+    return words(truth(was_extended), *after)
+
+
 KINDS = {
-    "e": (2, CROSSING_LIMIT, equation),
-    "d": (3, CROSSING_LIMIT, distance),
-    "s": (3, CROSSING_LIMIT, sides),
-    "c": (4, CROSSING_LIMIT, crossing),
-    "n": (4, CROSSING_LIMIT, nearly_colinear),
+    "e": equation,
+    "d": distance,
+    "s": sides,
+    "c": crossing,
+    "n": nearly_colinear_lines,
+    "x": extents,
+    "p": parallels,
+    "t": thick_points,
+    "a": start_join,
+    "z": end_join,
+    "j": join,
+    "f": lines_of_join,
+    "k": parts_of_segment,
+    "r": span_of_segment,
+    "m": met_span,
+    "u": extended_span,
 }
 
 
-def answer(question):
+def whole_answer(question):
+    """The answer as if every lent list were long enough."""
     kind, *numbers = question.split()
-    numbers = [int(number) for number in numbers]
-    count, limit, answer_kind = KINDS[kind]
-    assert len(numbers) == 2 * count, question
-    if any(abs(number) > limit for number in numbers):
-        return COORDINATE_REFUSED
-    return answer_kind(*zip(numbers[::2], numbers[1::2]))
+    try:
+        return KINDS[kind](*map(int, numbers))
+    except Refused as refusal:
+        return f"refused {refusal}"
+
+
+def printed_answer(question):
+    """What the printed Rust is expected to answer: its `try_extend` says no to an empty span."""
+    kind, *numbers = question.split()
+    if kind == "u":
+        _, start, end, _, other_start, other_end = map(int, numbers)
+        if segments.is_empty((start, end)) or segments.is_empty((other_start, other_end)):
+            return words("false", start, end)
+    return whole_answer(question)
+
+
+def answer(question):
+    whole = whole_answer(question)
+    too_long = question[0] in LISTED and len(whole.split()) - 1 > LENT_LIST
+    return "refused 8" if too_long else whole
 
 
 if __name__ == "__main__":

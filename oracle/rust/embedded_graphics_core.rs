@@ -20,6 +20,14 @@ pub mod geometry {
         pub const fn zero() -> Self {
             Self::new(0, 0)
         }
+
+        pub fn component_min(self, other: Self) -> Self {
+            Self::new(self.x.min(other.x), self.y.min(other.y))
+        }
+
+        pub fn component_max(self, other: Self) -> Self {
+            Self::new(self.x.max(other.x), self.y.max(other.y))
+        }
     }
 
     impl Add for Point {
@@ -72,6 +80,12 @@ pub mod geometry {
         pub height: u32,
     }
 
+    impl Size {
+        pub const fn new(width: u32, height: u32) -> Self {
+            Self { width, height }
+        }
+    }
+
     pub trait Dimensions {
         fn bounding_box(&self) -> Rectangle;
     }
@@ -100,15 +114,14 @@ pub mod primitives {
     }
 
     impl Rectangle {
+        pub const fn new(top_left: Point, size: Size) -> Self {
+            Self { top_left, size }
+        }
+
         /// The least rectangle that holds both pixels.
         pub fn with_corners(a: Point, b: Point) -> Self {
-            Self {
-                top_left: Point::new(a.x.min(b.x), a.y.min(b.y)),
-                size: Size {
-                    width: a.x.abs_diff(b.x) + 1,
-                    height: a.y.abs_diff(b.y) + 1,
-                },
-            }
+            let size = Size::new(a.x.abs_diff(b.x) + 1, a.y.abs_diff(b.y) + 1);
+            Self::new(a.component_min(b), size)
         }
     }
 }

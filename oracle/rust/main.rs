@@ -4,18 +4,24 @@
 //! number of the question has no place in i32. Called with the word `places`, it also tells what
 //! overflowed and where: `overflow geometry/mod.rs:44:9: attempt to multiply with overflow`.
 
+mod draw_target;
 mod geometry;
 mod primitives;
 mod transform;
 
 use geometry::Point;
 use primitives::{
-    common::{LineSide, LinearEquation},
+    common::{
+        line_join, thick_segment, EdgeCorners, JoinKind, LineJoin, LineSide, LinearEquation,
+        Scanline, StrokeOffset, ThickSegment,
+    },
+    line,
     Intersection, IntersectionParams, Line,
 };
 use std::{
     env,
     io::{self, BufRead, BufWriter, Write},
+    iter,
     panic::{self, PanicHookInfo},
     process,
     sync::Mutex,
@@ -65,21 +71,66 @@ fn answer(question: &str, tells_places: bool) -> String {
 /// One arm for each kind of question.
 fn answer_kind(kind: &str, numbers: &[i32]) -> String {
     match (kind, numbers) {
-        ("e", &[ax, ay, bx, by]) => equation(&line(ax, ay, bx, by)),
-        ("d", &[ax, ay, bx, by, px, py]) => distance(&line(ax, ay, bx, by), Point::new(px, py)),
-        ("s", &[ax, ay, bx, by, px, py]) => sides(&line(ax, ay, bx, by), Point::new(px, py)),
+        ("e", &[ax, ay, bx, by]) => equation(&line_of(ax, ay, bx, by)),
+        ("d", &[ax, ay, bx, by, px, py]) => distance(&line_of(ax, ay, bx, by), Point::new(px, py)),
+        ("s", &[ax, ay, bx, by, px, py]) => sides(&line_of(ax, ay, bx, by), Point::new(px, py)),
         ("c", &[ax, ay, bx, by, cx, cy, dx, dy]) => {
-            crossing(&line(ax, ay, bx, by), &line(cx, cy, dx, dy))
+            crossing(&line_of(ax, ay, bx, by), &line_of(cx, cy, dx, dy))
         }
         ("n", &[ax, ay, bx, by, cx, cy, dx, dy]) => {
-            nearly_colinear(&line(ax, ay, bx, by), &line(cx, cy, dx, dy))
+            nearly_colinear(&line_of(ax, ay, bx, by), &line_of(cx, cy, dx, dy))
+        }
+        ("x", &[ax, ay, bx, by, width, offset]) => {
+            extents(&line_of(ax, ay, bx, by), width, stroke_offset(offset))
+        }
+        ("p", &[ax, ay, bx, by, width, offset]) => {
+            parallels(&line_of(ax, ay, bx, by), width, stroke_offset(offset))
+        }
+        ("t", &[ax, ay, bx, by, width]) => thick_points(&line_of(ax, ay, bx, by), width),
+        ("a", &[ax, ay, bx, by, width, offset]) => {
+            let (a, b) = (Point::new(ax, ay), Point::new(bx, by));
+            join_words(&LineJoin::start(a, b, width as u32, stroke_offset(offset)))
+        }
+        ("z", &[ax, ay, bx, by, width, offset]) => {
+            let (a, b) = (Point::new(ax, ay), Point::new(bx, by));
+            join_words(&LineJoin::end(a, b, width as u32, stroke_offset(offset)))
+        }
+        ("j", &[ax, ay, bx, by, cx, cy, width, offset]) => {
+            let (a, b, c) = (Point::new(ax, ay), Point::new(bx, by), Point::new(cx, cy));
+            join_words(&LineJoin::from_points(a, b, c, width as u32, stroke_offset(offset)))
+        }
+        ("f", numbers) => lines_of_join(&join(numbers)),
+        ("k", numbers) => parts_of_segment(join(&numbers[..9]), join(&numbers[9..])),
+        ("r", &[ref joins @ .., row]) => {
+            let segment = ThickSegment::new(join(&joins[..9]), join(&joins[9..]));
+            span_words(&segment.intersection(row))
+        }
+        ("m", &[ax, ay, bx, by, row, start, end]) => {
+            let mut scanline = Scanline::new(row, start..end);
+            scanline.bresenham_intersection(&line_of(ax, ay, bx, by));
+            span_words(&scanline)
+        }
+        ("u", &[row, start, end, other_row, other_start, other_end]) => {
+            let mut scanline = Scanline::new(row, start..end);
+            let other = Scanline::new(other_row, other_start..other_end);
+            let extended = scanline.try_extend(&other);
+            format!("{extended} {}", span_words(&scanline))
         }
         _ => panic!("no such question"),
     }
 }
 
-fn line(ax: i32, ay: i32, bx: i32, by: i32) -> Line {
+fn line_of(ax: i32, ay: i32, bx: i32, by: i32) -> Line {
     Line::new(Point::new(ax, ay), Point::new(bx, by))
+}
+
+fn stroke_offset(number: i32) -> StrokeOffset {
+    match number {
+        0 => StrokeOffset::None,
+        1 => StrokeOffset::Left,
+        2 => StrokeOffset::Right,
+        _ => panic!("no such offset"),
+    }
 }
 
 fn equation(line: &Line) -> String {
@@ -111,4 +162,122 @@ fn nearly_colinear(first: &Line, second: &Line) -> String {
     IntersectionParams::from_lines(first, second)
         .nearly_colinear_has_error()
         .to_string()
+}
+
+fn extents(line: &Line, width: i32, offset: StrokeOffset) -> String {
+    let (left, right) = line::door::extents(line, width as u32, offset);
+    format!("{} {}", line_words(&left), line_words(&right))
+}
+
+fn line_words(line: &Line) -> String {
+    let Line { start, end } = line;
+    format!("{} {} {} {}", start.x, start.y, end.x, end.y)
+}
+
+fn parallels(line: &Line, width: i32, offset: StrokeOffset) -> String {
+    let words = line::door::parallels(line, width, offset)
+        .into_iter()
+        .map(|(point, error, extra)| format!("{} {} {error} {}", point.x, point.y, extra as i32));
+    counted(words)
+}
+
+fn thick_points(line: &Line, width: i32) -> String {
+    counted(line::door::thick_points(line, width).into_iter().map(|p| format!("{} {}", p.x, p.y)))
+}
+
+/// The number of the items, then the items.
+fn counted(items: impl ExactSizeIterator<Item = String>) -> String {
+    iter::once(items.len().to_string())
+        .chain(items)
+        .collect::<Vec<_>>()
+        .join(" ")
+}
+
+fn join_words(join: &LineJoin) -> String {
+    let kind = match join.kind {
+        JoinKind::Bevel { outer_side } => format!("Bevel {outer_side:?}"),
+        JoinKind::Degenerate { outer_side } => format!("Degenerate {outer_side:?}"),
+        kind => format!("{kind:?}"),
+    };
+    let corners = |corners: &EdgeCorners| line_words(&Line::new(corners.left, corners.right));
+    let (first, second) = (&join.first_edge_end, &join.second_edge_start);
+    format!("{kind} {} {}", corners(first), corners(second))
+}
+
+/// A join from the number of its kind and its corners.
+fn join(numbers: &[i32]) -> LineJoin {
+    let &[kind, ax, ay, bx, by, cx, cy, dx, dy] = numbers else {
+        panic!("no such join");
+    };
+    let (left, right) = (LineSide::Left, LineSide::Right);
+    LineJoin {
+        kind: match kind {
+            0 => JoinKind::Miter,
+            1 => JoinKind::Bevel { outer_side: left },
+            2 => JoinKind::Bevel { outer_side: right },
+            3 => JoinKind::Degenerate { outer_side: left },
+            4 => JoinKind::Degenerate { outer_side: right },
+            5 => JoinKind::Colinear,
+            6 => JoinKind::Start,
+            7 => JoinKind::End,
+            _ => panic!("no such kind of join"),
+        },
+        first_edge_end: EdgeCorners {
+            left: Point::new(ax, ay),
+            right: Point::new(bx, by),
+        },
+        second_edge_start: EdgeCorners {
+            left: Point::new(cx, cy),
+            right: Point::new(dx, dy),
+        },
+    }
+}
+
+fn lines_of_join(join: &LineJoin) -> String {
+    let filler = line_join::door::filler_line(join);
+    let filler = filler.map_or("none".into(), |filler| line_words(&filler));
+    let start = cap_words(join.start_cap_lines());
+    let end = cap_words(join.end_cap_lines());
+    format!("{filler} | {start} | {end} | {}", join.is_degenerate())
+}
+
+fn cap_words((first, second): (Line, Option<Line>)) -> String {
+    let lines: Vec<Line> = iter::once(first).chain(second).collect();
+    counted(lines.iter().map(line_words))
+}
+
+fn span_words(scanline: &Scanline) -> String {
+    format!("{} {}", scanline.x.start, scanline.x.end)
+}
+
+/// The perimeter has no function of its own in the printed file: here are the lines that
+/// `ThickSegment::intersection` meets with a row, in its order.
+fn parts_of_segment(start: LineJoin, end: LineJoin) -> String {
+    let segment = ThickSegment::new(start, end);
+    let (right, left) = thick_segment::door::edges(&segment);
+    let perimeter = if segment.is_skeleton() {
+        vec![right]
+    } else {
+        let (start_line, start_second) = start.start_cap_lines();
+        let (end_line, end_second) = end.end_cap_lines();
+        iter::once(start_line)
+            .chain(start_second)
+            .chain([end_line])
+            .chain(end_second)
+            .chain([right, left])
+            .collect()
+    };
+    let corner = segment.edges_bounding_box().top_left;
+    let size = segment.edges_bounding_box().size;
+    format!(
+        "{} | {} {} | {} {} {} {} | {}",
+        segment.is_skeleton(),
+        line_words(&right),
+        line_words(&left),
+        corner.x,
+        corner.y,
+        size.width,
+        size.height,
+        counted(perimeter.iter().map(line_words))
+    )
 }

@@ -1,5 +1,5 @@
-//! Stands for the crate's `primitives`: lines only, and a door for the driver to what the printed
-//! files show to this module alone.
+//! Stands for the crate's `primitives`: lines only, and what the printed files show to this module
+//! alone, handed on to the driver.
 
 pub mod common;
 pub mod line;

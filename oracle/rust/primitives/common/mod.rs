@@ -1,8 +1,14 @@
 //! Stands for the crate's `primitives::common`: its two small enums.
 
+pub mod line_join;
 mod linear_equation;
+mod scanline;
+pub mod thick_segment;
 
+pub use line_join::{EdgeCorners, JoinKind, LineJoin};
 pub use linear_equation::LinearEquation;
+pub use scanline::Scanline;
+pub use thick_segment::ThickSegment;
 
 #[derive(Copy, Clone, Eq, PartialEq, Ord, PartialOrd, Hash, Debug)]
 pub enum LineSide {

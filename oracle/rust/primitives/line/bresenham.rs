@@ -85,7 +85,7 @@ pub enum BresenhamPoint {
 #[derive(Copy, Clone, Eq, PartialEq, Ord, PartialOrd, Hash, Debug)]
 pub struct Bresenham {
     pub point: Point,
-    error: i32,
+    pub error: i32,
 }
 
 impl Bresenham {
