@@ -5,5 +5,6 @@ pub mod Linear
 pub mod Machine
 pub mod Products
 pub mod Ring
+pub mod Squares
 pub mod Steps
 pub mod Tests

@@ -1,0 +1,4 @@
+pub mod Answers
+pub mod Laws
+pub mod Others
+pub mod Room

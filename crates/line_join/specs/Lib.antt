@@ -1,0 +1,5 @@
+pub mod Answers
+pub mod Caps
+pub mod Join
+pub mod Miter
+pub mod Words

@@ -1,0 +1,66 @@
+-- What 01's order says of a join's kind and of its refusal, in words: when it is which.
+use mathlib.Core.Path.{_≡_}
+use mathlib.Core.Logic.{_⊎_}
+use mathlib.Core.Bool.{true, false}
+use Prim.Native.Nat.{ℕ}
+use lib.IntN.{ℤ, pos}
+use lib.Signed.{_≤ℤ_, _<ℤ_}
+use Rattle.shapes.specs.declared.Point.{Point}
+use Rattle.shapes.specs.declared.Side.{Side}
+use Rattle.shapes.specs.Shape.{minus, squaredLength}
+use Rattle.intersection_params.specs.declared.Intersection.the-variants.{At}
+use Rattle.intersection_params.specs.Words.{bend}
+use Rattle.extents.specs.declared.Edges.{Edges}
+use Rattle.line_join.specs.declared.Kind.{Kind}
+use Rattle.line_join.specs.declared.Kind.the-variants.{Miter, Bevel, Degenerate, Colinear, Start, End}
+use Rattle.line_join.specs.declared.Corners.{Corners}
+use Rattle.line_join.specs.Miter.{miterLimit}
+use Rattle.line_join.specs.Join.{meet, outer, overlapping}
+
+module _ (first second : Edges) where
+  -- one of the two determinants is 0
+  abbrev pub Parallel : Type 0
+  Parallel = (bend (second .left) (first .left) ≡ pos 0) ⊎ (bend (second .right) (first .right) ≡ pos 0)
+
+  -- both pairs of edges cross, where `crossing` says; the outer side is that of the left crossing
+  pub record Bend (side : Side) (crossing : Corners) : Type 0 where
+    pub left-at : meet (second .left) (first .left) ≡ At (crossing .left) side
+    pub other : Side
+    pub right-at : meet (second .right) (first .right) ≡ At (crossing .right) other
+
+  -- the lines overlap
+  pub record Overlap (side : Side) : Type 0 where
+    pub crossing : Corners
+    pub bend : Bend side crossing
+    pub overlaps : overlapping side first second ≡ true
+
+  -- they do not, and the squared distance of the outer corner from the middle point is within the limit
+  pub record Short (mid : Point) (w : ℤ) : Type 0 where
+    pub side : Side
+    pub crossing : Corners
+    pub bend : Bend side crossing
+    pub apart : overlapping side first second ≡ false
+    pub within : squaredLength (minus (outer side crossing) mid) ≤ℤ miterLimit w
+
+  -- they do not, and it is beyond
+  pub record Long (mid : Point) (w : ℤ) (side : Side) : Type 0 where
+    pub crossing : Corners
+    pub bend : Bend side crossing
+    pub apart : overlapping side first second ≡ false
+    pub beyond : miterLimit w <ℤ squaredLength (minus (outer side crossing) mid)
+
+  -- when a join is of a kind
+  abbrev pub HasKind : Point → ℤ → Kind → Type 0
+  HasKind mid w Miter = Short mid w
+  HasKind mid w (Bevel s) = Long mid w s
+  HasKind mid w (Degenerate s) = Overlap s
+  HasKind mid w Colinear = Parallel
+  HasKind mid w Start = ⊥
+  HasKind mid w End = ⊥
+
+-- which refusal n is, where W says that the width is good, P that the points are, and C that the corners are
+pub record Refusals (W P C : Type 0) (n : ℕ) : Type 0 where
+  pub none : W → P → C → n ≡ 0
+  pub width : (W → ⊥) → n ≡ 3
+  pub points : W → (P → ⊥) → n ≡ 4
+  pub corners : W → P → (C → ⊥) → n ≡ 5

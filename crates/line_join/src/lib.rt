@@ -1,0 +1,200 @@
+//! How two thick lines are joined: `line_join.rs`.
+ghost use mathlib.Core.Path.{_≡_};
+ghost use Rattle.line_join.specs.Answers.{inputRefusal, areNear, joinValues, fillerValues, capsValues};
+ghost use Rattle.line_join.specs.Answers.{startAnswer, endAnswer, pointsAnswer, fillerAnswer, startCapsAnswer, endCapsAnswer};
+ghost use Rattle.line_join.specs.Answers.{degenerateAnswer, checkedOf};
+
+pub mod bend; // bend.rt: the join of two thick lines
+pub mod inner; // inner.rt: the same without the tests
+pub mod miter; // miter.rt: how long a miter may be
+
+use inner::is_join_near;
+use linear_equation::Tested;
+use miter::is_thin;
+use shapes::Line;
+use shapes::Offset;
+use shapes::Point;
+use shapes::Side;
+use shapes::inner::is_line_near;
+use shapes::inner::is_near;
+use shapes::limits::POINT;
+use shapes::refusals::COORDINATE;
+use shapes::refusals::CORNER;
+use shapes::refusals::WIDTH;
+
+/// How a join looks.
+pub enum Kind {
+    /// A sharp point.
+    Miter,
+    /// A point that was cut off, on the outer side.
+    Bevel(Side),
+    /// The lines overlap; drawn as a bevel on the outer side.
+    Degenerate(Side),
+    /// The lines run the same way.
+    Colinear,
+    /// The begin of a route.
+    Start,
+    /// The end of a route.
+    End,
+}
+
+/// The two corners of an edge across a thick line.
+pub struct Corners {
+    pub left: Point,
+    pub right: Point,
+}
+
+/// A join: its kind, the corners at which the line before it ends (the Rust's `first_edge_end`), and those at which the
+/// line after it begins (`second_edge_start`).
+pub struct Join {
+    pub kind: Kind,
+    pub ending: Corners,
+    pub starting: Corners,
+}
+
+/// The answer of a constructor.
+pub enum Joined {
+    /// A join whose corners are all within 4,095.
+    Made(Join),
+    /// Nothing was made; the number says why.
+    Refused(u64),
+}
+
+/// What closes the gap of a join on its outer side.
+pub enum Filler {
+    /// The line between the outer corners of a bevel or of a degenerate join.
+    Filled(Line),
+    /// Any other join has no gap.
+    Nothing,
+    /// Nothing was worked out; the number says why.
+    Refused(u64),
+}
+
+/// The lines that close a thick line's end at a join.
+pub enum Caps {
+    /// From the left corner to the right one.
+    One(Line),
+    /// From the left corner to the filler line's midpoint, and on to the right corner.
+    Two(Line, Line),
+    /// Nothing was worked out; the number says why.
+    Refused(u64),
+}
+
+/// The join at which a route from `a` to `b` begins. Refused with 3 for a width outside 0 to 64, with 4 for a coordinate
+/// beyond 511, with 5 for a corner beyond 4,095.
+pub fn start(a: Point, b: Point, width: i64, offset: Offset) -> Joined
+    ensures { λ r. ⌜ joinValues r ≡ startAnswer a b width offset ⌝ }
+{
+    let line = Line { start: a, end: b };
+    let refusal = input_refusal(width, is_line_near(line, POINT));
+    if refusal == 0 {
+        return checked(inner::start(a, b, width, offset));
+    }
+    Joined::Refused(refusal)
+}
+
+/// The join at which a route that comes from `a` ends, at `b`. Refused as for `start`.
+pub fn end(a: Point, b: Point, width: i64, offset: Offset) -> Joined
+    ensures { λ r. ⌜ joinValues r ≡ endAnswer a b width offset ⌝ }
+{
+    let line = Line { start: a, end: b };
+    let refusal = input_refusal(width, is_line_near(line, POINT));
+    if refusal == 0 {
+        return checked(inner::end(a, b, width, offset));
+    }
+    Joined::Refused(refusal)
+}
+
+/// The join at `b` of the lines from `a` to `b` and from `b` to `c`. Refused as for `start`.
+pub fn from_points(a: Point, b: Point, c: Point, width: i64, offset: Offset) -> Joined
+    ensures { λ r. ⌜ joinValues r ≡ pointsAnswer a b c width offset ⌝ }
+{
+    let refusal = input_refusal(width, are_near(a, b, c));
+    if refusal == 0 {
+        return checked(inner::from_points(a, b, c, width, offset));
+    }
+    Joined::Refused(refusal)
+}
+
+/// The line that closes the gap of a bevel or of a degenerate join. A corner beyond 4,095 is refused with 5.
+pub fn filler_line(join: Join) -> Filler
+    ensures { λ r. ⌜ fillerValues r ≡ fillerAnswer join ⌝ }
+{
+    if is_join_near(join) {
+        return inner::filler(join);
+    }
+    Filler::Refused(CORNER)
+}
+
+/// The lines that close the thick line that begins at a join: two where the join has a filler line, else one. A corner
+/// beyond 4,095 is refused with 5.
+pub fn start_cap_lines(join: Join) -> Caps
+    ensures { λ r. ⌜ capsValues r ≡ startCapsAnswer join ⌝ }
+{
+    if is_join_near(join) {
+        return inner::start_caps(join);
+    }
+    Caps::Refused(CORNER)
+}
+
+/// The lines that close the thick line that ends at a join: two where the join has a filler line, else one. A corner
+/// beyond 4,095 is refused with 5.
+pub fn end_cap_lines(join: Join) -> Caps
+    ensures { λ r. ⌜ capsValues r ≡ endCapsAnswer join ⌝ }
+{
+    if is_join_near(join) {
+        return inner::end_caps(join);
+    }
+    Caps::Refused(CORNER)
+}
+
+/// Whether the lines at a join overlap. A corner beyond 4,095 is refused with 5.
+pub fn is_degenerate(join: Join) -> Tested
+    ensures { λ r. ⌜ r ≡ degenerateAnswer join ⌝ }
+{
+    if is_join_near(join) {
+        return Tested {
+            refusal: 0,
+            holds: inner::is_degenerate(join),
+        };
+    }
+    Tested {
+        refusal: CORNER,
+        holds: false,
+    }
+}
+
+/// The refusal of a constructor's input, or 0: `near` says whether its points are within 511.
+fn input_refusal(width: i64, near: bool) -> u64
+    ensures { λ r. ⌜ r ≡ inputRefusal width near ⌝ }
+{
+    if is_thin(width) {
+        if near {
+            return 0;
+        }
+        return COORDINATE;
+    }
+    WIDTH
+}
+
+/// Whether three points are within 511.
+fn are_near(a: Point, b: Point, c: Point) -> bool
+    ensures { λ r. ⌜ r ≡ areNear a b c ⌝ }
+{
+    let line = Line { start: a, end: b };
+    if is_line_near(line, POINT) {
+        is_near(c, POINT)
+    } else {
+        false
+    }
+}
+
+/// A join, unless a corner is beyond 4,095.
+fn checked(join: Join) -> Joined
+    ensures { λ r. ⌜ r ≡ checkedOf join ⌝ }
+{
+    if is_join_near(join) {
+        return Joined::Made(join);
+    }
+    Joined::Refused(CORNER)
+}

@@ -1,0 +1,79 @@
+-- Squares, how large a rounded quotient is, tests and their opposites, and tables that follow a rule. Assumes nothing.
+use mathlib.Core.Path.{_≡_, refl, sym, ap, _∙_}
+use mathlib.Core.Bool.{Bool, true, false, cond}
+use mathlib.Core.List.{List, [], _∷_}
+use Prim.Native.Nat.{ℕ, zero, suc, _+_, _*_, _<_}
+use native.Mathlib.Nat.{mul-le-mul, le-of-suc-le-suc, div-le-self}
+use native.Mathlib.Omega.{arith}
+use borrow.Author.Tests.{ltb-true, leb-false, lt-ltb, lt-leb}
+use lib.IntN.{ℤ, pos, negsuc, natAbs, _+ℤ_, _-ℤ_, _*ℤ_}
+use lib.ListN.{getD}
+use lib.Signed.{ltZ, leZ}
+use Rattle.whole.specs.Number.{Within}
+use Rattle.whole.specs.Rounded.{rounded, half}
+use Rattle.whole.proofs.Linear.{linear}
+use Rattle.whole.proofs.Tests.{le-iff}
+use Rattle.whole.proofs.Bounds.{within-add, within-sub, within-quot, within-more}
+
+-- ---- squares
+
+-- a square is that of the absolute value
+pub square-abs : (x : ℤ) → x *ℤ x ≡ pos (natAbs x * natAbs x)
+square-abs (pos n) = refl
+square-abs (negsuc n) = refl
+
+-- the sum of two squares is beyond that of n where one of the two is beyond n: no square has to be taken to see it
+module _ (x y : ℤ) (n : ℕ) where
+  beyond : n * n < natAbs x * natAbs x + natAbs y * natAbs y → leZ (x *ℤ x +ℤ y *ℤ y) (pos n *ℤ pos n) ≡ false
+  beyond h = rw (square-abs x, square-abs y) (lt-leb (natAbs x * natAbs x + natAbs y * natAbs y) (n * n) h)
+
+  pub squares-beyond-left : n < natAbs x → leZ (x *ℤ x +ℤ y *ℤ y) (pos n *ℤ pos n) ≡ false
+  squares-beyond-left h = beyond (omega (arith, mul-le-mul h h))
+
+  pub squares-beyond-right : n < natAbs y → leZ (x *ℤ x +ℤ y *ℤ y) (pos n *ℤ pos n) ≡ false
+  squares-beyond-right h = beyond (omega (arith, mul-le-mul h h))
+
+-- ---- a rounded quotient is no larger than its dividend and its divisor together
+
+half-within : (d : ℤ) → Within (half d) (natAbs d)
+half-within d = record { bound = div-le-self (natAbs d) 2 }
+
+within-self : (z : ℤ) → Within z (natAbs z)
+within-self z = record { bound = omega arith }
+
+sized-by : (n d : ℤ) (t : Bool) → Within (cond t (n -ℤ half d) (n +ℤ half d)) (natAbs n + natAbs d)
+sized-by n d true = within-sub (within-self n) (half-within d)
+sized-by n d false = within-add (within-self n) (half-within d)
+
+pub rounded-within : {n d : ℤ} {j k : ℕ} → Within n j → Within d k → Within (rounded n d) (j + k)
+unfolding rounded
+rounded-within {n} {d} p q = within-more (within-quot d (sized-by n d (ltZ n (pos 0)))) (omega arith)
+
+-- ---- a test and its opposite
+
+pub lt-not-le : (x y : ℤ) → ltZ x y ≡ true → leZ y x ≡ false
+lt-not-le (pos a) (pos b) e = lt-leb b a (ltb-true a b e)
+lt-not-le (pos a) (negsuc b) e = sym e
+lt-not-le (negsuc a) (pos b) e = refl
+lt-not-le (negsuc a) (negsuc b) e = lt-leb a b (ltb-true b a e)
+
+pub not-lt-le : (x y : ℤ) → ltZ x y ≡ false → leZ y x ≡ true
+not-lt-le x y e = le-iff y x .1 (omega linear)
+
+pub not-le-lt : (x y : ℤ) → leZ x y ≡ false → ltZ y x ≡ true
+not-le-lt (pos a) (pos b) e = lt-ltb b a (leb-false a b e)
+not-le-lt (pos a) (negsuc b) e = refl
+not-le-lt (negsuc a) (pos b) e = sym e
+not-le-lt (negsuc a) (negsuc b) e = lt-ltb a b (leb-false b a e)
+
+-- ---- a table that follows a rule
+
+-- f i, f (i + 1), .., n of them
+abbrev pub counted : (ℕ → ℕ) → ℕ → ℕ → List ℕ
+counted f i zero = []
+counted f i (suc n) = f i ∷ counted f (suc i) n
+
+pub getD-counted : (f : ℕ → ℕ) (i n k : ℕ) → k < n → getD (counted f i n) k 0 ≡ f (i + k)
+getD-counted f i zero k h = absurd (omega arith)
+getD-counted f i (suc n) zero h = ap f (omega arith)
+getD-counted f i (suc n) (suc k) h = getD-counted f (suc i) n k (le-of-suc-le-suc h) ∙ ap f (omega arith)
