@@ -25,7 +25,7 @@ use Rattle.board.specs.Boards.{live, boardOf, Sound, isSound, begun, isI
 use Rattle.board.specs.Histories.{Event, offers, clears, lists, after, reached, accepted, covered, boardAfter, spansAfter, Lights, runsIn, ListedAlike, Demand3, Reachable}
 use Rattle.board.proofs.Ascend.{lower, settled, total-counts}
 use Rattle.board.proofs.Fewest.{fewest}
-use Rattle.board.proofs.Laws.{live-of, sound-of, true-sound, sound-true, inside-columns, spanned-by, lit-span, ascending-span, taken, Verdict, takes, refuses, verdict, by-length, full, is-full}
+use Rattle.board.proofs.Laws.{live-of, sound-of, true-sound, sound-true, inside-columns, inside-exactly, spanned-by, lit-span, ascending-span, taken, Verdict, takes, refuses, verdict, by-length, full, is-full}
 
 -- ---- what every history keeps: a sound board that lights just what the accepted spans cover
 
@@ -84,10 +84,14 @@ unfolding listed listedTo listRefusal
 listed-alike s t e =
     record { runs = e; answers = λ n. rw (sound-true s, sound-true t, e); writes = λ out. rw (sound-true s, sound-true t, e) }
 
+listing-writes : (b : Board) (out : List ℤ) → listRefusal b (length out) ≡ 0 → runsIn (listed b (length out) .count) (listedTo b out) ≡ live b
+unfolding listed listedTo over
+listing-writes b out e = rw e (runs-back (live b) (drop (2 * length (live b)) out))
+
 listing-sums : (b : Board) (out : List ℤ) → listRefusal b (length out) ≡ 0
     → listed b (length out) .total ≡ total (runsIn (listed b (length out) .count) (listedTo b out))
-unfolding listed listedTo over
-listing-sums b out e = rw e (ap total (sym (runs-back (live b) (drop (2 * length (live b)) out))))
+unfolding listed
+listing-sums b out e = rw (listing-writes b out e, e)
 
 -- ---- demand 3
 
@@ -109,6 +113,7 @@ demand-3 y w es =
       refused = λ s o e rs lights. le-trans (full o e) (fewest (ascending-span s (o .inside) up) rs (λ x. lights x ∙ sym (spanned h s x)));
       needed = λ s o needs. is-full o (needs (withSpan s (live b)) (ascending-span s (o .inside) up) (spanned h s));
       kept = listing-keeps (begun y .board) es;
+      written = listing-writes b;
       summed = listing-sums b;
     }
 
@@ -194,3 +199,24 @@ six-by b s true true e f array never = absurd (never (sound-reachable b array e)
 
 pub refused-six : (b : Board) (s : Span) → length (b .runs) ≡ boardRuns → (Reachable b → s .row ≡ b .row → ⊥) → offerRefusal b s ≡ 6
 refused-six b s = six-by b s (isSound b) (eqZ (s .row) (b .row)) refl refl
+
+-- ---- 7, as 01's table has it: the span "has a column outside 4,095", which an empty one has not
+
+not-seven : (u : Bool) → _≡_ {A = ℕ} (cond u 0 8) 7 → ⊥
+not-seven true e = omega arith
+not-seven false e = omega arith
+
+module _ (b : Board) (s : Span) (r : Reachable b) (row : s .row ≡ b .row) where
+  seven-by : (t : Bool) → isInside s ≡ t → offerRefusal b s ≡ cond t (cond (leb (length (withSpan s (live b))) boardRuns) 0 8) 7
+  unfolding offerRefusal
+  seven-by t e = let same : eqZ (s .row) (b .row) ≡ true = rw row (eqZ-refl (b .row)) in rw (reachable-sound b r, same, e)
+
+  pub seven-refuses : offerRefusal b s ≡ 7 → ((x : ℤ) → between (s .start) (s .end) x ≡ true → Within x cornerLimit) → ⊥
+  seven-refuses e all = not-seven (leb (length (withSpan s (live b))) boardRuns) (sym (seven-by true (inside-exactly s .1 all)) ∙ e)
+
+  refused-by : (t : Bool) → isInside s ≡ t → (((x : ℤ) → between (s .start) (s .end) x ≡ true → Within x cornerLimit) → ⊥) → offerRefusal b s ≡ 7
+  refused-by true e never = absurd (never (inside-exactly s .0 e))
+  refused-by false e never = seven-by false e
+
+  pub refused-seven : (((x : ℤ) → between (s .start) (s .end) x ≡ true → Within x cornerLimit) → ⊥) → offerRefusal b s ≡ 7
+  refused-seven = refused-by (isInside s) refl

@@ -3,20 +3,22 @@
 use mathlib.Core.Path.{_≡_, refl, sym, _∙_}
 use mathlib.Core.Bool.{Bool, true, false, cond, _&&_, _||_}
 use mathlib.Core.List.{List}
+use mathlib.Core.Logic.{_↔_}
 use Prim.Native.Nat.{ℕ, suc, _-_, _*_, _≤_, _<_}
 use native.Mathlib.Omega.{arith}
 use borrow.Author.Tests.{leb-true, leb-false, le-leb, lt-leb}
 use lib.Dec.{leb, eqb}
-use lib.IntN.{ℤ, pos}
+use lib.IntN.{ℤ, pos, _-ℤ_}
 use lib.ListN.{length, replicate, length-take}
 use lib.Seq.{take-append-seam}
 use lib.Signed.{ltZ, _≤ℤ_, _<ℤ_}
 use Rattle.whole.specs.Number.{Within, isWithin, eqZ}
 use Rattle.whole.specs.Columns.{between}
 use Rattle.whole.proofs.Laws.{true-within, within-true}
+use Rattle.whole.proofs.Linear.{abs-parts, abs-le, diff}
 use Rattle.whole.proofs.Machine.{eqZ-refl}
 use Rattle.whole.proofs.Tests.{and-left, and-right}
-use Rattle.whole.proofs.Columns.{tests, eqZ-yes, between-low, between-high}
+use Rattle.whole.proofs.Columns.{tests, eqZ-yes, between-yes, between-low, between-high, between-le, between-lt}
 use Rattle.shapes.specs.Limits.{cornerLimit, boardRuns}
 use Rattle.shapes.specs.declared.Span.{Span}
 use Rattle.board.specs.declared.Run.{Run}
@@ -86,6 +88,32 @@ inside-by s false e low high = rw e
 
 pub inside-columns : (s : Span) → edge cornerLimit <ℤ s .start → s .end ≤ℤ pos (suc cornerLimit) → isInside s ≡ true
 inside-columns s = inside-by s (isSome s) refl
+
+-- 01: "a non-empty span has a column outside 4,095" is what the test for 7 says no to
+column-by : (s : Span) (x : ℤ) (t : Bool) → isSome s ≡ t → isInside s ≡ true → between (s .start) (s .end) x ≡ true → Within x cornerLimit
+unfolding isInside
+column-by s x true e h on =
+    let f = true-follows cornerLimit (edge cornerLimit) (spanRun s) (rw e at h) in
+    let low = between-le (s .start) (s .end) x on in
+    let high = between-lt (s .start) (s .end) x on in
+    record { bound = abs-le x (omega (tests, f .apart, f .inside)) (omega (tests, f .apart, f .inside)) }
+column-by s x false e h on =
+    let low = between-le (s .start) (s .end) x on in
+    let high = between-lt (s .start) (s .end) x on in
+    absurd (omega tests)
+
+columns-by : (s : Span) (t : Bool) → isSome s ≡ t → ((x : ℤ) → between (s .start) (s .end) x ≡ true → Within x cornerLimit) → isInside s ≡ true
+unfolding isInside
+columns-by s false e all = rw e
+columns-by s true e all =
+    let last = s .end -ℤ pos 1 in
+    let d = diff (s .end) (pos 1) in
+    let first-near = all (s .start) (between-yes (s .start) (s .end) (s .start) (omega tests) e) in
+    let last-near = all last (between-yes (s .start) (s .end) last (omega (tests, d)) (omega (tests, d))) in
+    inside-columns s (omega (tests, abs-parts (s .start), first-near .bound)) (omega (tests, d, abs-parts last, last-near .bound))
+
+pub inside-exactly : (s : Span) → (isInside s ≡ true) ↔ ((x : ℤ) → between (s .start) (s .end) x ≡ true → Within x cornerLimit)
+inside-exactly s = (λ h x. column-by s x (isSome s) refl h, columns-by s (isSome s) refl)
 
 -- a span that is not empty
 pub spanned-by : (s : Span) (rs : List Run) → isSome s ≡ true → withSpan s rs ≡ withRun (spanRun s) rs

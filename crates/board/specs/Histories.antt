@@ -94,8 +94,10 @@ pub record Demand3 (y : ℤ) (es : List Event) : Type 0 where
   pub needed : (s : Span) → Offerable (boardAfter y es) s
       → ((rs : List Run) → Ascending cornerLimit (edge cornerLimit) rs → Lights rs (covered (s ∷ spansAfter y es)) → boardRuns < length rs)
       → offerRefusal (boardAfter y es) s ≡ 8
-  -- (f) a listing, wherever it stands in a history, changes nothing; its total is that of the runs that it listed
+  -- (f) a listing, wherever it stands in a history, changes nothing; what it wrote are the runs, and its total is theirs
   pub kept : (out : List ℤ) (fs : List Event) → boardAfter y (es ++ (lists out ∷ fs)) ≡ boardAfter y (es ++ fs)
+  pub written : (out : List ℤ) → listRefusal (boardAfter y es) (length out) ≡ 0
+      → runsIn (listed (boardAfter y es) (length out) .count) (listedTo (boardAfter y es) out) ≡ runsAfter y es
   pub summed : (out : List ℤ) → listRefusal (boardAfter y es) (length out) ≡ 0
       → listed (boardAfter y es) (length out) .total ≡ total (runsIn (listed (boardAfter y es) (length out) .count) (listedTo (boardAfter y es) out))
 
