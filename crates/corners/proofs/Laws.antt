@@ -15,8 +15,8 @@ use Rattle.intersection_params.specs.declared.Intersection.the-variants.{Coline
 use Rattle.intersection_params.specs.Crossing.{cramerOf, solutionOf, sideOf, drawnOf, crossingOf, nearlyColinear, areNear, crossingValues, crossingAnswer}
 use Rattle.intersection_params.specs.Words.{bend}
 use Rattle.intersection_params.proofs.Laws.{determinant-directions, colinear-exactly, crossing-chosen, nearly-chosen}
-use Rattle.board.specs.Runs.{withRun, joined, follows, isAscending, total}
-use Rattle.board.specs.Boards.{live, boardOf, isSound, freshRefusal, begun, isInside, withSpan, offerRefusal, withOffer, offered, listRefusal, listed}
+use Rattle.board.specs.Runs.{withRun, joined, follows, isAscending, total, flat}
+use Rattle.board.specs.Boards.{live, boardOf, isSound, freshRefusal, begun, isInside, withSpan, offerRefusal, withOffer, offered, listRefusal, listed, over, listedTo}
 use Rattle.board.specs.Histories.{after, reached}
 use Rattle.corners.specs.Cases.{nearly, Holds, Every, cases}
 
@@ -48,6 +48,6 @@ unfolding Holds nearlyColinear
 by-deltas p q t e a b ha hb da db = nearly-chosen crossingLimit a b .holds (ha, hb) ∙ simp (determinant-directions a b, da, db, e)
 
 pub corners : Every cases
-unfolding cases Every Holds crossingAnswer crossingValues areNear isLineNear isNear isWithin crossingOf drawnOf sideOf rounded solutionOf cramerOf equationOf determinant dotProduct quarterTurn delta minus sideAnswer pointNear isOnSide distanceOf reached after begun offered withOffer withSpan withRun joined isInside follows offerRefusal isSound isAscending live boardOf listed listRefusal total freshRefusal greater lesser
+unfolding cases Every Holds crossingAnswer crossingValues areNear isLineNear isNear isWithin crossingOf drawnOf sideOf rounded solutionOf cramerOf equationOf determinant dotProduct quarterTurn delta minus sideAnswer pointNear isOnSide distanceOf reached after begun offered withOffer withSpan withRun joined isInside follows offerRefusal isSound isAscending live boardOf listed listedTo over flat listRefusal total freshRefusal greater lesser
 corners =
     (refl, (refl, (refl, (refl, (refl, (with-any, (by-deltas _ _ false refl, (by-deltas _ _ true refl, ((refl, refl), ((refl, refl), ((refl, refl), ((refl, refl), tt))))))))))))

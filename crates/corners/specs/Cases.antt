@@ -4,7 +4,7 @@ use mathlib.Core.Bool.{Bool, true, false}
 use mathlib.Core.List.{List, [], _∷_}
 use Prim.Native.Nat.{ℕ, _*_}
 use lib.IntN.{ℤ, pos, negsuc}
-use lib.ListN.{length}
+use lib.ListN.{length, replicate}
 use Rattle.shapes.specs.declared.Point.{Point}
 use Rattle.shapes.specs.declared.Line.{Line}
 use Rattle.shapes.specs.declared.Side.the-variants.{Left, Right}
@@ -15,9 +15,9 @@ use Rattle.intersection_params.specs.declared.Intersection.{Intersection}
 use Rattle.intersection_params.specs.declared.Intersection.the-variants.{At, Colinear}
 use Rattle.intersection_params.specs.Crossing.{crossingValues, crossingAnswer, nearlyAnswer}
 use Rattle.board.specs.declared.Run.{Run}
-use Rattle.board.specs.Runs.{runOf}
-use Rattle.board.specs.Boards.{listed}
-use Rattle.board.specs.Histories.{Event, offers, boardAfter, runsAfter}
+use Rattle.board.specs.Runs.{runOf, flat}
+use Rattle.board.specs.Boards.{listed, listedTo}
+use Rattle.board.specs.Histories.{Event, offers, boardAfter}
 
 pub data Case : Type 0 where
   -- two lines and their crossing
@@ -43,7 +43,7 @@ Holds (crossingWithAny a r) =
 Holds (nearly p q t) =
     (a b : Line) → LineNear crossingLimit a → LineNear crossingLimit b → delta a ≡ p → delta b ≡ q → nearlyAnswer crossingLimit a b ≡ record { refusal = 0; holds = t }
 Holds (board rs listing n) =
-    (runsAfter (pos 0) (offersOf rs) ≡ listing) × (listed (boardAfter (pos 0) (offersOf rs)) (2 * length listing) .total ≡ n)
+    (listed (boardAfter (pos 0) (offersOf rs)) (2 * length listing) ≡ record { refusal = 0; count = length listing; total = n }) × (listedTo (boardAfter (pos 0) (offersOf rs)) (replicate (2 * length listing) (pos 0)) ≡ flat listing)
 Holds (sides l p left right) =
     (sideAnswer crossingLimit l p Left ≡ record { refusal = 0; holds = left }) × (sideAnswer crossingLimit l p Right ≡ record { refusal = 0; holds = right })
 
