@@ -18,6 +18,7 @@ use Rattle.intersection_params.proofs.Laws.{determinant-directions, colinear-ex
 use Rattle.board.specs.Runs.{withRun, joined, follows, isAscending, total, flat}
 use Rattle.board.specs.Boards.{live, boardOf, isSound, freshRefusal, begun, isInside, withSpan, offerRefusal, withOffer, offered, listRefusal, listed, over, listedTo}
 use Rattle.board.specs.Histories.{after, reached}
+use Rattle.corners.proofs.Legs.{legs-of-216}
 use Rattle.corners.specs.Cases.{nearly, Holds, Every, cases}
 
 -- a line from (3,3) to (3,3) has no direction
@@ -50,4 +51,4 @@ by-deltas p q t e a b ha hb da db = nearly-chosen crossingLimit a b .holds (ha, 
 pub corners : Every cases
 unfolding cases Every Holds crossingAnswer crossingValues areNear isLineNear isNear isWithin crossingOf drawnOf sideOf rounded solutionOf cramerOf equationOf determinant dotProduct quarterTurn delta minus sideAnswer pointNear isOnSide distanceOf reached after begun offered withOffer withSpan withRun joined isInside follows offerRefusal isSound isAscending live boardOf listed listedTo over flat listRefusal total freshRefusal greater lesser
 corners =
-    (refl, (refl, (refl, (refl, (refl, (with-any, (by-deltas _ _ false refl, (by-deltas _ _ true refl, ((refl, refl), ((refl, refl), ((refl, refl), ((refl, refl), tt))))))))))))
+    (refl, (refl, (refl, (refl, (refl, (with-any, (by-deltas _ _ false refl, (by-deltas _ _ true refl, ((refl, refl), ((refl, refl), (legs-of-216, ((refl, refl), ((refl, refl), tt)))))))))))))

@@ -14,6 +14,13 @@ use Rattle.linear_equation.specs.Equation.{sideAnswer}
 use Rattle.intersection_params.specs.declared.Intersection.{Intersection}
 use Rattle.intersection_params.specs.declared.Intersection.the-variants.{At, Colinear}
 use Rattle.intersection_params.specs.Crossing.{crossingValues, crossingAnswer, nearlyAnswer}
+use Rattle.shapes.specs.declared.Offset.{Offset}
+use Rattle.shapes.specs.declared.Offset.the-variants.{None}
+use Rattle.line_join.specs.declared.Corners.{Corners}
+use Rattle.line_join.specs.declared.Join.{Join}
+use Rattle.line_join.specs.declared.Joined.the-variants.{Made}
+use Rattle.line_join.specs.declared.Kind.the-variants.{Miter}
+use Rattle.line_join.specs.Answers.{joinValues, pointsAnswer}
 use Rattle.board.specs.declared.Run.{Run}
 use Rattle.board.specs.Runs.{runOf, flat}
 use Rattle.board.specs.Boards.{listed, listedTo}
@@ -26,6 +33,8 @@ pub data Case : Type 0 where
   crossingWithAny : Line → Intersection → Case
   -- two deltas, and whether lines that have them run nearly the same way
   nearly : Point → Point → Bool → Case
+  -- three points, a width and an offset, and the join at the second point
+  joins : Point → Point → Point → ℤ → Offset → Join → Case
   -- offers to a fresh board of row 0, and the runs and the total that it lists then
   board : List Run → List Run → ℤ → Case
   -- a line and a point, and whether the point is on the left, and on the right
@@ -42,6 +51,7 @@ Holds (crossingWithAny a r) =
     (b : Line) → LineNear crossingLimit b → (crossingAnswer crossingLimit a b ≡ crossingValues r) × (crossingAnswer crossingLimit b a ≡ crossingValues r)
 Holds (nearly p q t) =
     (a b : Line) → LineNear crossingLimit a → LineNear crossingLimit b → delta a ≡ p → delta b ≡ q → nearlyAnswer crossingLimit a b ≡ record { refusal = 0; holds = t }
+Holds (joins a b c w o j) = pointsAnswer a b c w o ≡ joinValues (Made j)
 Holds (board rs listing n) =
     (listed (boardAfter (pos 0) (offersOf rs)) (2 * length listing) ≡ record { refusal = 0; count = length listing; total = n }) × (listedTo (boardAfter (pos 0) (offersOf rs)) (replicate (2 * length listing) (pos 0)) ≡ flat listing)
 Holds (sides l p left right) =
@@ -59,6 +69,12 @@ line x y u v = lineOf (pointOf x y) (pointOf u v)
 -- the columns from s to e, e not included
 abbrev run : ℕ → ℕ → Run
 run s e = runOf (pos s) (pos e)
+
+-- (0,0), (216,0), (216,216) at width 3: a miter with its corners at (217,-1) and (215,1)
+unfoldable pub legsOf216 : Case
+legsOf216 =
+    let tip : Corners = record { left = pointOf (pos 217) (negsuc 0); right = pointOf (pos 215) (pos 1) } in
+    joins (pointOf (pos 0) (pos 0)) (pointOf (pos 216) (pos 0)) (pointOf (pos 216) (pos 216)) (pos 3) None (record { kind = Miter; ending = tip; starting = tip })
 
 unfoldable pub cases : List Case
 cases =
@@ -80,6 +96,8 @@ cases =
     -- P9
     ∷ sides (line (pos 0) (pos 0) (pos 10) (pos 0)) (pointOf (pos 5) (negsuc 0)) true false
     ∷ sides (line (pos 0) (pos 0) (pos 10) (pos 0)) (pointOf (pos 5) (pos 0)) true true
+    -- P10
+    ∷ legsOf216
     -- P11
     ∷ board (run 0 2 ∷ run 4 6 ∷ run 2 4 ∷ []) (run 0 6 ∷ []) (pos 6)
     -- P12

@@ -4,10 +4,11 @@ use extents::extents;
 use libc::STDIN_FILENO;
 use replay_text::after;
 use replay_text::line_at;
+use replay_text::offset_at;
 use replay_text::say;
 use replay_text::say_count;
+use replay_text::say_line;
 use replay_text::say_numbers;
-use replay_text::say_point;
 use replay_text::say_refused;
 use shapes::Line;
 use shapes::Offset;
@@ -34,24 +35,14 @@ fn answer(questions: &[u8], at: usize) {
     let asked = line_at(questions, after(after(at)));
     let line = asked.line;
     let width = text::number_at(questions, asked.next);
-    let offset = text::number_at(questions, after(width.next));
+    let offset = offset_at(questions, after(width.next));
     match kind {
-        b'x' => say_extents(line, width.value, offset_of(offset.value)),
-        b'p' => say_parallels(line, width.value, offset_of(offset.value)),
+        b'x' => say_extents(line, width.value, offset),
+        b'p' => say_parallels(line, width.value, offset),
         b't' => say_points(line, width.value),
         _ => {}
     }
     say(b"\n");
-}
-
-fn offset_of(number: i64) -> Offset {
-    if number == 1 {
-        return Offset::Left;
-    }
-    if number == 2 {
-        return Offset::Right;
-    }
-    Offset::None
 }
 
 fn say_extents(line: Line, width: i64, offset: Offset) {
@@ -63,14 +54,6 @@ fn say_extents(line: Line, width: i64, offset: Offset) {
     say_line(r.left);
     say(b" ");
     say_line(r.right);
-}
-
-fn say_line(line: Line) {
-    let start = line.start;
-    let end = line.end;
-    say_point(start);
-    say(b" ");
-    say_point(end);
 }
 
 fn say_parallels(line: Line, width: i64, offset: Offset) {

@@ -2,7 +2,10 @@
 use mathlib.Core.Bool.{cond}
 use mathlib.Core.List.{List}
 use Prim.Native.Nat.{ℕ, _+_}
-use lib.Dec.{ltb}
+use lib.Dec.{ltb, eqb}
+use lib.ListN.{getD}
+use Rattle.shapes.specs.declared.Offset.{Offset}
+use Rattle.shapes.specs.declared.Offset.the-variants.{None, Left, Right}
 use Rattle.shapes.specs.Shape.{pointOf, lineOf}
 use Rattle.text.specs.Numbers.{numberAt}
 use Rattle.replay_text.specs.declared.PointAt.{PointAt}
@@ -23,3 +26,7 @@ lineAt s at =
     let a = pointAt s at in
     let b = pointAt s (a .next) in
     record { line = lineOf (a .point) (b .point); next = b .next }
+
+-- 1 is Left, 2 is Right, and all else is None
+unfoldable pub offsetAt : List ℕ → ℕ → Offset
+offsetAt s at = cond (eqb (getD s at 0) 49) Left (cond (eqb (getD s at 0) 50) Right None)

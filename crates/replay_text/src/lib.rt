@@ -1,9 +1,10 @@
 //! Questions and answers as text, for the programs that replay stored questions: points and lines are read out of a
 //! question, and words and numbers are written to standard output. No contract can say what is written.
 ghost use mathlib.Core.Path.{_≡_};
-ghost use Rattle.replay_text.specs.Questions.{nextPlace, pointAt, lineAt};
+ghost use Rattle.replay_text.specs.Questions.{nextPlace, pointAt, lineAt, offsetAt};
 use libc::STDOUT_FILENO;
 use shapes::Line;
+use shapes::Offset;
 use shapes::Point;
 use whole::inner::size;
 
@@ -55,6 +56,20 @@ pub fn line_at(s: &[u8], at: usize) -> LineAt
     }
 }
 
+/// The offset that stands at a place: 1 is Left, 2 is Right, and all else is None.
+pub fn offset_at(s: &[u8], at: usize) -> Offset
+    ensures { λ r. ⌜ r ≡ offsetAt (now (s .entry)) at ⌝ }
+{
+    let digit = text::byte_at(s, at);
+    if digit == b'1' {
+        return Offset::Left;
+    }
+    if digit == b'2' {
+        return Offset::Right;
+    }
+    Offset::None
+}
+
 /// Writes words.
 pub fn say(words: &[u8]) {
     io::write_all(STDOUT_FILENO, words);
@@ -92,6 +107,15 @@ pub fn say_numbers(numbers: &[i64]) {
 pub fn say_point(p: Point) {
     say_number(p.x);
     say_next(p.y);
+}
+
+/// Writes the two ends of a line.
+pub fn say_line(line: Line) {
+    let start = line.start;
+    let end = line.end;
+    say_point(start);
+    say(b" ");
+    say_point(end);
 }
 
 /// Writes `true` or `false`.
