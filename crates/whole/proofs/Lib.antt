@@ -5,6 +5,7 @@ pub mod Linear
 pub mod Machine
 pub mod Products
 pub mod Ring
+pub mod Spans
 pub mod Squares
 pub mod Steps
 pub mod Tests

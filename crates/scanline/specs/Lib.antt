@@ -1,0 +1,5 @@
+pub mod Answers
+pub mod Meeting
+pub mod Points
+pub mod Spans
+pub mod Words
