@@ -93,7 +93,7 @@ cleared b = record { refusal = clearRefusal b; board = cond (isSound b) (boardOf
 
 -- ---- a board listed to a lent list of numbers
 
--- 8: "the list has fewer than two numbers for each run"; n is the list's length
+-- "8 if the list has fewer than two numbers, or one record, for each run": here the numbers; n is the list's length
 unfoldable pub listRefusal : Board → ℕ → ℕ
 listRefusal b n = cond (isSound b) (cond (leb (2 * length (live b)) n) 0 roomRefused) rowRefused
 

@@ -40,7 +40,7 @@ pub data Case : Type 0 where
   -- a line and a point, and whether the point is on the left, and on the right
   sides : Line → Point → Bool → Bool → Case
 
--- offers of a row, one after the other
+-- offers to row 0, one after the other
 abbrev pub offersOf : List Run → List Event
 offersOf [] = []
 offersOf (r ∷ rs) = offers (record { row = pos 0; start = r .start; end = r .end }) ∷ offersOf rs
