@@ -106,7 +106,7 @@ decreased p e =
     (record { error = e -ℤ p .gain +ℤ p .loss; carry = true })
     (record { error = e -ℤ p .gain; carry = false })
 
--- ---- what W2 says of the parameters of any line: 1 ≤ a ≤ k, 0 ≤ 2b ≤ 2a, and steps of one pixel
+-- ---- what W2 says of the parameters of any line whose start is not its end: 1 ≤ a ≤ k, 0 ≤ 2b ≤ 2a, and steps of one pixel
 
 pub record Fair (k : ℕ) (p : Parameters) : Type 0 where
   pub some : pos 1 ≤ℤ p .threshold

@@ -83,7 +83,7 @@ pub fn close(line: Line, along: Parameters, edge: Edge) -> Line
     Line { start, end: whole }
 }
 
-/// The left and the right edge of a line, for a width from 0 to 64 and an offset.
+/// The left and the right edge of a line, for a width and an offset.
 pub fn extents(line: Line, width: i64, offset: Offset) -> Edges
     requires { ⌜ LineNear lineLimit line ⌝ }
     requires { ⌜ Within width widthLimit ⌝ }

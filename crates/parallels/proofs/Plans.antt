@@ -19,7 +19,7 @@ use Rattle.shapes.specs.declared.Side.{Side}
 use Rattle.shapes.specs.declared.Side.the-variants.{Left, Right}
 use Rattle.shapes.specs.declared.Offset.{Offset}
 use Rattle.shapes.specs.Limits.{lineLimit}
-use Rattle.shapes.specs.Shape.{Near, LineNear, minus, delta, squaredLength, dotProduct}
+use Rattle.shapes.specs.Shape.{Near, LineNear, plus, minus, delta, perpendicular, squaredLength, dotProduct}
 use Rattle.shapes.proofs.Laws.{near-delta}
 use Rattle.bresenham.specs.Walk.{placeOf, parametersAlong}
 use Rattle.bresenham.proofs.Laws.{Larger, larger as larger-of}
@@ -140,6 +140,14 @@ module _ (w : ℕ) (d : Point) (near : Near deltaLimit d) (some : 1 ≤ natAbs (
       }
 
 -- ---- the plan of a line
+
+there-and-off : (a d : ℤ) → a +ℤ d -ℤ a ≡ d
+there-and-off a d = omega (linear, sum a d, diff (a +ℤ d) a)
+
+-- W1's perpendicular, which the Rust takes, has the delta that the plan takes
+pub perpendicular-delta : (l : Line) → delta (perpendicular l) ≡ turnedBack (delta l)
+unfolding perpendicular plus delta minus
+perpendicular-delta l = simp (there-and-off (l .start .x) (l .end .y -ℤ l .start .y), there-and-off (l .start .y) (negℤ (l .end .x -ℤ l .start .x)))
 
 apart-by : (a b : ℤ) → natAbs (b -ℤ a) ≤ 0 → eqZ a b ≡ true
 apart-by a b h =

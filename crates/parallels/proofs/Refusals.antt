@@ -1,6 +1,7 @@
 -- The refusals of a line and a width, without the code: each is given exactly when 01's table says. Assumes nothing.
 use mathlib.Core.Path.{_≡_, refl}
-use mathlib.Core.Bool.{Bool, true, false, _&&_}
+use mathlib.Core.Logic.{_↔_}
+use mathlib.Core.Bool.{Bool, true, false, cond, and-false, false≢true}
 use Prim.Native.Nat.{ℕ}
 use native.Mathlib.Omega.{arith}
 use lib.IntN.{ℤ, pos}
@@ -8,16 +9,12 @@ use lib.Signed.{ltZ, leZ, _≤ℤ_}
 use Rattle.whole.specs.Number.{Within}
 use Rattle.whole.proofs.Linear.{linear, sum, abs-le}
 use Rattle.whole.proofs.Steps.{le-true, le-no, le-yes, parts}
-use Rattle.whole.proofs.Tests.{and-left, and-right}
+use Rattle.whole.proofs.Tests.{and-left, and-right, and-iff, le-iff}
 use Rattle.shapes.specs.declared.Line.{Line}
 use Rattle.shapes.specs.Limits.{pointLimit, widthLimit}
 use Rattle.shapes.specs.Shape.{LineNear, isLineNear}
-use Rattle.shapes.proofs.Laws.{true-line-near, line-near-true}
+use Rattle.shapes.proofs.Laws.{true-line-near, line-near-true, line-near-iff}
 use Rattle.parallels.specs.Refusal.{isWidth, strokeRefusal}
-
-and-false : (a : Bool) → (a && false) ≡ false
-and-false true = refl
-and-false false = refl
 
 -- ---- widths
 
@@ -64,11 +61,45 @@ accepted-none {l} {w} a =
     let size = parts (a .width-low) in
     rw (le-yes (pos 0) w (a .width-low), le-yes w (pos widthLimit) (omega (linear, a .width-small .bound)), line-near-true (a .line-near))
 
--- 3 for a width outside, and 4 for a coordinate outside where the width is not
-pub refused-width : (l : Line) (w : ℤ) → isWidth w ≡ false → strokeRefusal l w ≡ 3
-unfolding strokeRefusal
-refused-width l w e = rw e
+-- ---- each number exactly when 01's table says
 
-pub refused-line : (l : Line) (w : ℤ) → isWidth w ≡ true → isLineNear pointLimit l ≡ false → strokeRefusal l w ≡ 4
+abbrev pub IsWidth : ℤ → Type 0
+IsWidth w = (pos 0 ≤ℤ w) × (w ≤ℤ pos widthLimit)
+
+pub width-exactly : (w : ℤ) → (isWidth w ≡ true) ↔ IsWidth w
+unfolding isWidth
+width-exactly w = and-iff (leZ (pos 0) w) (leZ w (pos widthLimit)) (le-iff (pos 0) w) (le-iff w (pos widthLimit))
+
+-- a chain of two tests: what it answers where the first fails, where only the second does
+record Chain (P Q : Type 0) (n : ℕ) : Type 0 where
+  three : (n ≡ 3) ↔ (P → ⊥)
+  four : (n ≡ 4) ↔ (P × (Q → ⊥))
+
+chain : (s t : Bool) {P Q : Type 0} → (s ≡ true) ↔ P → (t ≡ true) ↔ Q → Chain P Q (cond s (cond t 0 4) 3)
+chain true true p q =
+    record {
+      three = (λ e. absurd (omega arith), λ no. absurd (no (p .0 refl)));
+      four = (λ e. absurd (omega arith), λ h. absurd (h .1 (q .0 refl)));
+    }
+chain true false p q =
+    record {
+      three = (λ e. absurd (omega arith), λ no. absurd (no (p .0 refl)));
+      four = (λ e. (p .0 refl, λ h. false≢true (q .1 h)), λ h. refl);
+    }
+chain false t p q =
+    record {
+      three = (λ e h. false≢true (p .1 h), λ no. refl);
+      four = (λ e. absurd (omega arith), λ h. absurd (false≢true (p .1 (h .0))));
+    }
+
+stroke-chain : (l : Line) (w : ℤ) → Chain (IsWidth w) (LineNear pointLimit l) (strokeRefusal l w)
 unfolding strokeRefusal
-refused-line l w e f = rw (e, f)
+stroke-chain l w = chain (isWidth w) (isLineNear pointLimit l) (width-exactly w) (line-near-iff pointLimit l)
+
+-- 3: width outside 0 to 64
+pub width-refused : (l : Line) (w : ℤ) → (strokeRefusal l w ≡ 3) ↔ (IsWidth w → ⊥)
+width-refused l w = stroke-chain l w .three
+
+-- 4: a coordinate is outside its limit, and the width is not
+pub line-refused : (l : Line) (w : ℤ) → (strokeRefusal l w ≡ 4) ↔ (IsWidth w × (LineNear pointLimit l → ⊥))
+line-refused l w = stroke-chain l w .four

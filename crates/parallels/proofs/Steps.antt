@@ -1,7 +1,7 @@
 -- One side of a line, without the code: what a step across it keeps, that at most one point is passed over, and how far a
 -- side gets. Assumes nothing.
 use mathlib.Core.Path.{_≡_, refl, sym, _∙_}
-use mathlib.Core.Bool.{Bool, true, false, cond}
+use mathlib.Core.Bool.{Bool, true, false, cond, false≢true}
 use Prim.Native.Nat.{ℕ, _+_, _≤_}
 use native.Mathlib.Nat.{le-refl}
 use native.Mathlib.Omega.{arith}
@@ -40,9 +40,6 @@ unfolding minus
 moved-minus o p m h = record { x-moved = far-back (p .x) (m .x) (o .x) (h .x-near .bound); y-moved = far-back (p .y) (m .y) (o .y) (h .y-near .bound) }
 
 -- ---- one step across a side
-
-no : false ≡ true → ⊥
-no e = let z : _≡_ {A = ℕ} 0 1 = cc in omega arith
 
 -- what a step has met: t says whether it is Extra
 pub record Crossed (t : Bool) (p : Parameters) (side : Side) (b : Bresenham) (m : Met) : Type 0 where
@@ -95,7 +92,7 @@ module _ (k : ℕ) (p : Parameters) (f : Fair k p) (b : Bresenham) (r : Ranged p
         point-is = refl;
         ranged = record { above = omega linear; below = omega linear };
         settled = λ t. cc;
-        grows = λ t. absurd (no t);
+        grows = λ t. absurd (false≢true t);
         moved = λ o. moved-plus o (b .point) (p .major) (f .major-unit);
       })
 
@@ -132,7 +129,7 @@ module _ (k : ℕ) (p : Parameters) (f : Fair k p) (b : Bresenham) (r : Ranged p
         point-is = refl;
         ranged = record { above = omega linear; below = omega linear };
         settled = λ t. cc;
-        grows = λ t. absurd (no t);
+        grows = λ t. absurd (false≢true t);
         moved = λ o. moved-minus o (b .point) (p .major) (f .major-unit);
       })
 
@@ -250,7 +247,7 @@ module _ (w : ℕ) (plan : Plan) (s : Sound w plan) (side : Side) (f : Flank) (h
         spent = spent-by true c;
         grows = c .grows;
         passed = λ e. (refl, c .settled refl);
-        normal = λ e. absurd (no (sym e ∙ c .due-is));
+        normal = λ e. absurd (false≢true (sym e ∙ c .due-is));
       })
   turned-by false c =
       rw (c .extra-is) (record {
@@ -259,8 +256,8 @@ module _ (w : ℕ) (plan : Plan) (s : Sound w plan) (side : Side) (f : Flank) (h
         point-is = c .point-is;
         reach = λ r. reach-by false c r;
         spent = spent-by false c;
-        grows = λ e. absurd (no e);
-        passed = λ e. absurd (no (sym e));
+        grows = λ e. absurd (false≢true e);
+        passed = λ e. absurd (false≢true (sym e));
         normal = λ e. refl;
       })
 

@@ -88,7 +88,7 @@ turnOf plan side f =
 abbrev pub takenOf : Turn → Taken
 takenOf t = record { start = t .start; extra = t .extra; flank = t .flank }
 
--- a point that is not met is passed over within the same call; at most one is
+-- a point that is not met is passed over within the same call; at most one is (`passed-once`)
 unfoldable pub nextParallel : Plan → Side → Flank → Taken
 nextParallel plan side f =
     let t = turnOf plan side f in

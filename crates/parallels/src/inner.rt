@@ -34,6 +34,8 @@ use shapes::inner::delta;
 use shapes::inner::is_line_near;
 use shapes::inner::squared_length;
 use shapes::limits;
+use shapes::refusals::COORDINATE;
+use shapes::refusals::WIDTH;
 
 /// Whether two points are the same.
 pub fn same_point(a: Point, b: Point) -> bool
@@ -323,13 +325,13 @@ pub fn refusal(line: Line, width: i64) -> u64
     ensures { λ r. ⌜ r ≡ strokeRefusal line width ⌝ }
 {
     if width < 0 {
-        return 3;
+        return WIDTH;
     }
     if limits::WIDTH < width {
-        return 3;
+        return WIDTH;
     }
     if is_line_near(line, limits::POINT) {
         return 0;
     }
-    4
+    COORDINATE
 }

@@ -13,6 +13,7 @@ use Rattle.shapes.specs.declared.Offset.the-variants as offset
 use Rattle.bresenham.specs.declared.Parameters.{Parameters}
 use Rattle.bresenham.specs.declared.Bresenham.{Bresenham}
 use Rattle.bresenham.specs.Walk.{nextOf, parametersOf}
+use Rattle.shapes.specs.Refusals.{roomRefused}
 use Rattle.parallels.specs.declared.Parallel.{Parallel}
 use Rattle.thick_points.specs.declared.Listed.{Listed}
 use Rattle.parallels.specs.Parallels.{planOf, parallelsOf}
@@ -64,7 +65,7 @@ listed out ns = ns ++ drop (length ns) out
 
 -- 8 where the list is too short, after the refusals n of the line and its width
 unfoldable pub listRefusal : ℕ → List ℤ → List ℤ → ℕ
-listRefusal n ns out = cond (ltb 0 n) n (cond (ltb (length out) (length ns)) 8 0)
+listRefusal n ns out = cond (ltb 0 n) n (cond (ltb (length out) (length ns)) roomRefused 0)
 
 -- a refusal writes nothing and counts nothing
 unfoldable pub answered : ℕ → ℕ → Listed

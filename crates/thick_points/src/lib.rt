@@ -11,6 +11,7 @@ use parallels::inner::refusal;
 use parallels::inner::start;
 use shapes::Line;
 use shapes::Offset;
+use shapes::refusals::ROOM;
 
 /// A refusal, or 0 and how many were written; a refusal counts 0.
 pub struct Listed {
@@ -37,7 +38,7 @@ pub fn list_parallels(line: Line, width: i64, offset: Offset, out: &mut [i64]) -
     let count = inner::count_parallels(plan, first);
     if out.len() < 4 * count {
         return Listed {
-            refusal: 8,
+            refusal: ROOM,
             count: 0,
         };
     }
@@ -65,7 +66,7 @@ pub fn list_thick_points(line: Line, width: i64, out: &mut [i64]) -> Listed
     let count = inner::count_points(plan, first, length);
     if out.len() < 2 * count {
         return Listed {
-            refusal: 8,
+            refusal: ROOM,
             count: 0,
         };
     }
