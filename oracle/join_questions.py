@@ -51,7 +51,7 @@ def random_points(rng, count, size):
 def ends(rng):
     """Start and end joins of lines in all directions, of all widths."""
     for direction, offset in product(DIRECTIONS, OFFSETS):
-        for width in (2, 3, 16, 64):
+        for width in WIDTHS:
             line = placed(rng, scaled(direction, rng.randint(1, 30)), LIMIT)
             yield ask(rng.choice("az"), line, width, offset)
     for width in range(65):
@@ -106,6 +106,8 @@ def doubled_points(rng):
         a, b = random_points(rng, 2, rng.choice((4, LIMIT)))
         for points in ((a, a, b), (a, b, b), (a, a, a)):
             yield ask("j", points, width, offset)
+        for kind in "az":
+            yield ask(kind, (a, a), width, offset)
 
 
 def miters_at_the_limit(rng):

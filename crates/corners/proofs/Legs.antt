@@ -3,7 +3,7 @@ use mathlib.Core.Path.{_≡_, refl}
 use mathlib.Core.Bool.{false}
 use mathlib.Core.List.{List, [], _∷_}
 use Prim.Native.Nat.{ℕ, suc}
-use lib.IntN.{ℤ, pos, negsuc}
+use lib.IntN.{pos, negsuc}
 use Rattle.shapes.specs.declared.Point.{Point}
 use Rattle.shapes.specs.declared.Line.{Line}
 use Rattle.shapes.specs.declared.Side.the-variants.{Left, Right}
@@ -43,6 +43,7 @@ second-three : (n : ℕ) → parallelsFrom (suc (suc (suc (suc n)))) (planOf sec
 unfolding bent turnOf nextParallel samePoint aimed thickness planAlong planOf startOf-parallels isDone grown yieldOf parallelsFrom directionOf along parametersAlong parametersOf nextAll previousAll increased decreased isNear isLineNear plus minus quarterTurn determinant dotProduct squaredLength delta isWithin rounded
 second-three n = refl
 
+-- the bound on their number, 36 · 216² + 1 - 216 = 1,679,401, is four more than this
 first-parallels : parallelsOf first (pos 3) None ≡ three (pointOf (pos 0) (pos 0)) (pointOf (pos 0) (negsuc 0)) (pointOf (pos 0) (pos 1))
 unfolding bent turnOf nextParallel samePoint aimed thickness planAlong planOf startOf-parallels isDone grown yieldOf spare parallels parallelsOf directionOf along parametersAlong parametersOf nextAll previousAll increased decreased isNear isLineNear plus minus quarterTurn determinant dotProduct squaredLength delta isWithin rounded
 first-parallels = first-three 1679397

@@ -89,7 +89,7 @@ mended-found t end (At p s) = tt
 mended-found t end Colinear = tt
 mended-found t end (Refused m) = tt
 
--- two edges meet nowhere exactly where their determinant-directions' determinant is 0
+-- two edges meet nowhere exactly where the determinant of their directions is 0
 pub meet-nowhere : (a b : Line) → (meet a b ≡ Colinear) ↔ (bend a b ≡ pos 0)
 unfolding meet
 meet-nowhere a b =

@@ -70,7 +70,7 @@ cut s crossing first second =
 
 -- ---- the join of edges
 
--- overlap: the end of the second line's inner edge lies on the inner side of the first line's
+-- overlap: the end of the second line's inner edge lies on the outer side of the first line's inner edge, or on it
 unfoldable pub overlapping : Side → Edges → Edges → Bool
 overlapping Left first second = isOnSide (equationOf (first .right)) (second .right .end) Left
 overlapping Right first second = isOnSide (equationOf (first .left)) (second .left .end) Right

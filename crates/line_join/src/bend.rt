@@ -81,7 +81,7 @@ pub fn crossed(second: Line, first: Line) -> Intersection
     Intersection::At(point, side)
 }
 
-/// Whether the inner edge of the second line ends inside the first line.
+/// Whether the inner edge of the second line ends on the outer side of the first line's inner edge, or on it.
 pub fn overlap(side: Side, first: Edges, second: Edges) -> bool
     requires { ⌜ EdgesNear lineLimit first ⌝ }
     requires { ⌜ EdgesNear lineLimit second ⌝ }

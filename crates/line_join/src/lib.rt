@@ -30,9 +30,9 @@ pub enum Kind {
     Bevel(Side),
     /// The lines overlap; drawn as a bevel on the outer side.
     Degenerate(Side),
-    /// The lines run the same way.
+    /// The left or the right edges are parallel, also where the route turns straight back.
     Colinear,
-    /// The begin of a route.
+    /// The beginning of a route.
     Start,
     /// The end of a route.
     End,
@@ -81,7 +81,7 @@ pub enum Caps {
 }
 
 /// The join at which a route from `a` to `b` begins. Refused with 3 for a width outside 0 to 64, with 4 for a coordinate
-/// beyond 511, with 5 for a corner beyond 4,095.
+/// beyond 511; its corners are within 1,023, so that it is never refused with 5.
 pub fn start(a: Point, b: Point, width: i64, offset: Offset) -> Joined
     ensures { λ r. ⌜ joinValues r ≡ startAnswer a b width offset ⌝ }
 {
@@ -105,7 +105,8 @@ pub fn end(a: Point, b: Point, width: i64, offset: Offset) -> Joined
     Joined::Refused(refusal)
 }
 
-/// The join at `b` of the lines from `a` to `b` and from `b` to `c`. Refused as for `start`.
+/// The join at `b` of the lines from `a` to `b` and from `b` to `c`. Refused with 3 and 4 as `start`, and with 5 for a
+/// corner beyond 4,095.
 pub fn from_points(a: Point, b: Point, c: Point, width: i64, offset: Offset) -> Joined
     ensures { λ r. ⌜ joinValues r ≡ pointsAnswer a b c width offset ⌝ }
 {

@@ -19,7 +19,7 @@ use Rattle.shapes.specs.declared.Side.{Side}
 use Rattle.shapes.specs.declared.Side.the-variants.{Left, Right}
 use Rattle.shapes.specs.declared.Offset.{Offset}
 use Rattle.shapes.specs.Limits.{lineLimit}
-use Rattle.shapes.specs.Shape.{Near, LineNear, plus, minus, delta, perpendicular, squaredLength, dotProduct}
+use Rattle.shapes.specs.Shape.{pointOf, lineOf, Near, LineNear, plus, minus, delta, perpendicular, squaredLength, dotProduct}
 use Rattle.shapes.proofs.Laws.{near-delta}
 use Rattle.bresenham.specs.Walk.{placeOf, parametersAlong}
 use Rattle.bresenham.proofs.Laws.{Larger, larger as larger-of}
@@ -191,3 +191,8 @@ parallels-few {w} l width offset h small =
     let plan = planOf l width offset in
     let sound = sound-plan l width offset h small in
     parallels-most w plan sound (l .start) (startOf plan (l .start)) (going-start w plan sound (l .start))
+
+-- a line from a point to itself takes its direction from (0,0)-(1,0)
+pub aimed-still : (a : Point) → aimed (lineOf a a) ≡ pointOf (pos 1) (pos 0)
+unfolding aimed samePoint
+aimed-still a = simp (eqZ-refl (a .x), eqZ-refl (a .y))
