@@ -1,0 +1,278 @@
+//! Answers questions on segments between two joins and on spans of a row: one line of standard input, one line of standard
+//! output. What it must write stands in `stdout`, and comes from two other calculations of the same rules (oracle/README.md).
+use libc::STDIN_FILENO;
+use line_join::Corners;
+use line_join::Join;
+use line_join::Kind;
+use replay_text::after;
+use replay_text::line_at;
+use replay_text::say;
+use replay_text::say_bool;
+use replay_text::say_count;
+use replay_text::say_line;
+use replay_text::say_next;
+use replay_text::say_number;
+use replay_text::say_point;
+use replay_text::say_refused;
+use scanline::Extended;
+use scanline::Spanned;
+use scanline::meet;
+use scanline::try_extend;
+use shapes::Side;
+use shapes::Span;
+use shapes::limits::CORNER;
+use thick_segment::Boxed;
+use thick_segment::Edged;
+use thick_segment::Segment;
+use thick_segment::edges;
+use thick_segment::edges_bounding_box;
+use thick_segment::is_skeleton;
+use thick_segment::perimeter;
+use thick_segment::perimeter_count;
+use thick_segment::span;
+use whole::inner::within;
+
+/// A join that was read, and the place of the number after it.
+struct JoinAt {
+    join: Join,
+    next: usize,
+}
+
+/// A segment that was read, and the place of the number after it.
+struct SegmentAt {
+    segment: Segment,
+    next: usize,
+}
+
+/// A span that was read, and the place of the number after it.
+struct SpanAt {
+    span: Span,
+    next: usize,
+}
+
+fn main() {
+    let mut questions = [0u8; 262144];
+    let n = io::read_full(STDIN_FILENO, &mut questions);
+    answer_all(&questions[..n]);
+}
+
+fn answer_all(questions: &[u8]) {
+    let mut at = 0;
+    while at < questions.len() {
+        answer(questions, at);
+        at = text::skip_past(questions, at, b'\n');
+    }
+}
+
+/// A letter that names the kind, and its numbers.
+fn answer(questions: &[u8], at: usize) {
+    let kind = text::byte_at(questions, at);
+    let first = after(after(at));
+    match kind {
+        b'k' => answer_segment(questions, first),
+        b'r' => answer_row(questions, first),
+        b'm' => answer_meet(questions, first),
+        b'u' => answer_extend(questions, first),
+        _ => {}
+    }
+    say(b"\n");
+}
+
+fn answer_segment(questions: &[u8], at: usize) {
+    let asked = segment_at(questions, at);
+    let segment = asked.segment;
+    say_segment(segment);
+}
+
+fn answer_row(questions: &[u8], at: usize) {
+    let asked = segment_at(questions, at);
+    let segment = asked.segment;
+    let row = text::number_at(questions, asked.next);
+    say_spanned(span(segment, row.value));
+}
+
+fn answer_meet(questions: &[u8], at: usize) {
+    let asked = line_at(questions, at);
+    let line = asked.line;
+    let known = span_at(questions, asked.next);
+    let before = known.span;
+    say_spanned(meet(before, line));
+}
+
+fn answer_extend(questions: &[u8], at: usize) {
+    let first = span_at(questions, at);
+    let second = span_at(questions, first.next);
+    let current = first.span;
+    let other = second.span;
+    say_extended(try_extend(current, other));
+}
+
+/// Two joins.
+fn segment_at(questions: &[u8], at: usize) -> SegmentAt {
+    let first = join_at(questions, at);
+    let last = join_at(questions, first.next);
+    let start = first.join;
+    let end = last.join;
+    SegmentAt {
+        segment: Segment { start, end },
+        next: last.next,
+    }
+}
+
+/// A kind by its number, and eight coordinates.
+fn join_at(questions: &[u8], at: usize) -> JoinAt {
+    let kind = kind_of(text::byte_at(questions, at));
+    let first = line_at(questions, after(after(at)));
+    let second = line_at(questions, first.next);
+    let ending = first.line;
+    let starting = second.line;
+    let a = ending.start;
+    let b = ending.end;
+    let c = starting.start;
+    let d = starting.end;
+    let join = Join {
+        kind,
+        ending: Corners { left: a, right: b },
+        starting: Corners { left: c, right: d },
+    };
+    JoinAt {
+        join,
+        next: second.next,
+    }
+}
+
+fn kind_of(digit: u8) -> Kind {
+    match digit {
+        b'0' => Kind::Miter,
+        b'1' => Kind::Bevel(Side::Left),
+        b'2' => Kind::Bevel(Side::Right),
+        b'3' => Kind::Degenerate(Side::Left),
+        b'4' => Kind::Degenerate(Side::Right),
+        b'5' => Kind::Colinear,
+        b'6' => Kind::Start,
+        _ => Kind::End,
+    }
+}
+
+/// A row, and the columns at which a span starts and ends.
+fn span_at(questions: &[u8], at: usize) -> SpanAt {
+    let row = text::number_at(questions, at);
+    let start = text::number_at(questions, after(row.next));
+    let end = text::number_at(questions, after(start.next));
+    SpanAt {
+        span: Span {
+            row: row.value,
+            start: start.value,
+            end: end.value,
+        },
+        next: after(end.next),
+    }
+}
+
+/// Whether the segment is a skeleton, its edges, their bounding box, and the lines that are drawn.
+fn say_segment(segment: Segment) {
+    let tested = is_skeleton(segment);
+    if tested.refusal != 0 {
+        say_refused(tested.refusal);
+        return;
+    }
+    say_bool(tested.holds);
+    say(b" | ");
+    say_edges(edges(segment));
+    say(b" | ");
+    say_box(edges_bounding_box(segment));
+    say(b" | ");
+    say_perimeter(segment);
+}
+
+fn say_edges(edged: Edged) {
+    if edged.refusal != 0 {
+        say_refused(edged.refusal);
+        return;
+    }
+    let pair = edged.edges;
+    let right = pair.right;
+    let left = pair.left;
+    say_line(right);
+    say(b" ");
+    say_line(left);
+}
+
+/// The top left corner, and the width and the height in pixels.
+fn say_box(boxed: Boxed) {
+    if boxed.refusal != 0 {
+        say_refused(boxed.refusal);
+        return;
+    }
+    let rectangle = boxed.rectangle;
+    let first = rectangle.first;
+    let last = rectangle.last;
+    say_point(first);
+    say_next(pixels(first.x, last.x));
+    say_next(pixels(first.y, last.y));
+}
+
+/// How many columns or rows there are from one to another, both included and both within 4,095; else 0.
+fn pixels(first: i64, last: i64) -> i64 {
+    if within(first, CORNER) {
+        if within(last, CORNER) {
+            return last - first + 1;
+        }
+    }
+    0
+}
+
+/// How many lines are drawn, and those lines.
+fn say_perimeter(segment: Segment) {
+    let counted = perimeter_count(segment);
+    if counted.refusal != 0 {
+        say_refused(counted.refusal);
+        return;
+    }
+    say_count(counted.count as u64);
+    say_rows(perimeter(segment), counted.count);
+}
+
+/// The first n of six lines.
+fn say_rows(lines: [[i64; 4]; 6], n: usize) {
+    let mut i: usize = 0;
+    while i < 6 {
+        if i < n {
+            say_row(lines[i]);
+        }
+        i += 1;
+    }
+}
+
+/// Four coordinates.
+fn say_row(row: [i64; 4]) {
+    say_next(row[0]);
+    say_next(row[1]);
+    say_next(row[2]);
+    say_next(row[3]);
+}
+
+fn say_spanned(spanned: Spanned) {
+    if spanned.refusal != 0 {
+        say_refused(spanned.refusal);
+        return;
+    }
+    let found = spanned.span;
+    say_span(found);
+}
+
+fn say_extended(extended: Extended) {
+    if extended.refusal != 0 {
+        say_refused(extended.refusal);
+        return;
+    }
+    let now = extended.span;
+    say_bool(extended.joined);
+    say(b" ");
+    say_span(now);
+}
+
+fn say_span(shown: Span) {
+    say_number(shown.start);
+    say_next(shown.end);
+}

@@ -1,0 +1,28 @@
+use mathlib.Core.Path.{_≡_, sym, _∙_}
+use mathlib.Core.Bool.{true}
+use borrow.Author.Needs.{needs}
+use Rattle.shapes.specs.Limits.{cornerLimit}
+use Rattle.thick_segment.specs.Segments.{isSegmentNear}
+use Rattle.thick_segment.specs.Answers.{edgesAnswer}
+use Rattle.thick_segment.proofs.edges.Statement.{statement}
+use Rattle.thick_segment.proofs.edges.Tie as tie
+
+inside : (c : tie.Then1) → isSegmentNear cornerLimit (c .before .before .args .segment) ≡ true
+inside c = sym (c .before .is-segment-near .ensures) ∙ c .if1 .taken
+
+is-segment-near-requires : tie.Need-is-segment-near-requires
+is-segment-near-requires c κs = search needs
+
+edges-requires : tie.Need-edges-requires
+edges-requires c κs = search needs
+
+returns : tie.Need-returns
+unfolding edgesAnswer
+returns c = simp (inside (c .before), c .edges .ensures)
+
+returns-2 : tie.Need-returns-2
+unfolding edgesAnswer
+returns-2 c = simp (sym (c .before .is-segment-near .ensures) ∙ c .if1 .left)
+
+pub edges-spec : {M : Type 1} → statement M
+edges-spec = tie.close (tie.spec is-segment-near-requires edges-requires returns returns-2)

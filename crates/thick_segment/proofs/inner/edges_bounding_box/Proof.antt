@@ -1,0 +1,53 @@
+use mathlib.Core.Path.{sym, ap, _∙_}
+use Rattle.thick_segment.specs.Segments.{edgesOf, boxOf, union, boundingBox}
+use borrow.Author.Needs.{needs}
+use Rattle.thick_segment.proofs.inner.edges_bounding_box.Statement.{statement}
+use Rattle.thick_segment.proofs.inner.edges_bounding_box.Tie as tie
+
+edges-requires : tie.Need-edges-requires
+edges-requires c κs = search needs
+
+is-skeleton-requires : tie.Need-is-skeleton-requires
+is-skeleton-requires c κs = search needs
+
+box-of-requires : tie.Need-box-of-requires
+box-of-requires c κs = search needs
+
+returns : tie.Need-returns
+unfolding boundingBox
+returns c =
+    let t = c .before in
+    c .box-of .ensures ∙ ap (λ e. boxOf (e .left)) (t .before .before .edges .ensures) ∙ simp (sym (t .before .is-skeleton .ensures) ∙ t .if1 .taken)
+
+box-of-requires-2 : tie.Need-box-of-requires-2
+box-of-requires-2 c κs = search needs
+
+box-of-requires-3 : tie.Need-box-of-requires-3
+box-of-requires-3 c κs = search needs
+
+union-requires : tie.Need-union-requires
+union-requires c κs = search needs
+
+returns-2 : tie.Need-returns-2
+unfolding boundingBox
+returns-2 c =
+    let e = c .before .before .before in
+    let s = e .before .before .before .args .segment in
+    let g = e .before .before .edges .ensures in
+    c .union .ensures
+    ∙ ap (λ b. union b (c .before .box-of3 .result)) (c .before .before .box-of2 .ensures ∙ ap (λ d. boxOf (d .right)) g)
+    ∙ ap (union (boxOf (edgesOf s .right))) (c .before .box-of3 .ensures ∙ ap (λ d. boxOf (d .left)) g)
+    ∙ simp (sym (e .before .is-skeleton .ensures) ∙ e .if1 .left)
+
+pub edges-bounding-box-spec : {M : Type 1} → statement M
+edges-bounding-box-spec =
+    tie.close
+    (tie.spec
+    edges-requires
+    is-skeleton-requires
+    box-of-requires
+    returns
+    box-of-requires-2
+    box-of-requires-3
+    union-requires
+    returns-2)

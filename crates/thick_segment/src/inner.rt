@@ -1,0 +1,273 @@
+//! Segments, for the crates above: no test of the input, but bounds that the caller shows.
+ghost use mathlib.Core.Path.{_≡_};
+ghost use Prim.Native.Nat.{_≤_};
+ghost use mathlib.Core.List.{[], _∷_, _++_};
+ghost use lib.ListN.{length, take};
+ghost use Rattle.shapes.specs.Limits.{cornerLimit, lineLimit};
+ghost use Rattle.shapes.specs.Shape.{lineOf};
+ghost use Rattle.thick_segment.specs.Segments.{SegmentNear, isSegmentNear, samePoint, isSkeleton, edgesOf};
+ghost use Rattle.thick_segment.specs.Segments.{least as leastOf, most as mostOf, boxOf, union as unionOf, boundingBox};
+ghost use Rattle.thick_segment.specs.Segments.{coordinates as coordinatesOf, capLines, rowsOf, countOf, lineAt, AllNear, metRows, perimeterOf, spanOn};
+use crate::EdgePair;
+use crate::Rectangle;
+use crate::Segment;
+use line_join::Caps;
+use line_join::inner::end_caps;
+use line_join::inner::is_join_near;
+use line_join::inner::start_caps;
+use scanline::inner::meet;
+use shapes::Line;
+use shapes::Point;
+use shapes::Span;
+use whole::inner::greater;
+use whole::inner::lesser;
+
+/// Whether all corners of both joins are within 4,095: if not, the segment is refused with 5.
+pub fn is_segment_near(segment: Segment) -> bool
+    ensures { λ r. ⌜ r ≡ isSegmentNear cornerLimit segment ⌝ }
+{
+    if is_join_near(segment.start) {
+        is_join_near(segment.end)
+    } else {
+        false
+    }
+}
+
+/// Whether two points are one.
+fn same_point(a: Point, b: Point) -> bool
+    ensures { λ r. ⌜ r ≡ samePoint a b ⌝ }
+{
+    let ax = a.x;
+    let ay = a.y;
+    let bx = b.x;
+    let by = b.y;
+    if ax == bx { ay == by } else { false }
+}
+
+/// Whether a segment is one pixel wide: the left and the right corner at which the line before its start join ends are one.
+pub fn is_skeleton(segment: Segment) -> bool
+    ensures { λ r. ⌜ r ≡ isSkeleton segment ⌝ }
+{
+    let join = segment.start;
+    let corners = join.ending;
+    same_point(corners.left, corners.right)
+}
+
+/// The edges of a segment: the right one along it, the left one back.
+pub fn edges(segment: Segment) -> EdgePair
+    ensures { λ r. ⌜ r ≡ edgesOf segment ⌝ }
+{
+    let first = segment.start;
+    let last = segment.end;
+    let starting = first.starting;
+    let ending = last.ending;
+    let right = line_of(starting.right, ending.right);
+    let left = line_of(ending.left, starting.left);
+    EdgePair { right, left }
+}
+
+/// The line from one point to another.
+fn line_of(start: Point, end: Point) -> Line
+    ensures { λ r. ⌜ r ≡ lineOf start end ⌝ }
+{
+    Line { start, end }
+}
+
+/// The point of the lesser of each coordinate.
+fn least(a: Point, b: Point) -> Point
+    ensures { λ r. ⌜ r ≡ leastOf a b ⌝ }
+{
+    let ax = a.x;
+    let ay = a.y;
+    let bx = b.x;
+    let by = b.y;
+    Point {
+        x: lesser(ax, bx),
+        y: lesser(ay, by),
+    }
+}
+
+/// The point of the greater of each coordinate.
+fn most(a: Point, b: Point) -> Point
+    ensures { λ r. ⌜ r ≡ mostOf a b ⌝ }
+{
+    let ax = a.x;
+    let ay = a.y;
+    let bx = b.x;
+    let by = b.y;
+    Point {
+        x: greater(ax, bx),
+        y: greater(ay, by),
+    }
+}
+
+/// The box around a line.
+fn box_of(line: Line) -> Rectangle
+    ensures { λ r. ⌜ r ≡ boxOf line ⌝ }
+{
+    Rectangle {
+        first: least(line.start, line.end),
+        last: most(line.start, line.end),
+    }
+}
+
+/// The box around two boxes.
+fn union(a: Rectangle, b: Rectangle) -> Rectangle
+    ensures { λ r. ⌜ r ≡ unionOf a b ⌝ }
+{
+    Rectangle {
+        first: least(a.first, b.first),
+        last: most(a.last, b.last),
+    }
+}
+
+/// The box around a segment's edges; around a skeleton's left edge alone, as the Rust has it.
+pub fn edges_bounding_box(segment: Segment) -> Rectangle
+    ensures { λ r. ⌜ r ≡ boundingBox segment ⌝ }
+{
+    let e = edges(segment);
+    if is_skeleton(segment) {
+        return box_of(e.left);
+    }
+    union(box_of(e.right), box_of(e.left))
+}
+
+/// A line's four coordinates.
+fn coordinates(line: Line) -> [i64; 4]
+    ensures { λ r. ⌜ r ≡ coordinatesOf line ⌝ }
+{
+    [line.start.x, line.start.y, line.end.x, line.end.y]
+}
+
+/// How many lines close an end.
+fn cap_count(caps: Caps) -> usize
+    ensures { λ r. ⌜ r ≡ length (capLines caps) ⌝ }
+{
+    match caps {
+        Caps::One(_) => 1,
+        Caps::Two(_, _) => 2,
+        Caps::Refused(_) => 0,
+    }
+}
+
+/// How many lines of a segment are drawn: one of a skeleton, else four to six.
+pub fn perimeter_count(segment: Segment) -> usize
+    requires { ⌜ SegmentNear cornerLimit segment ⌝ }
+    ensures { λ r. ⌜ r ≡ countOf segment ⌝ }
+{
+    if is_skeleton(segment) {
+        return 1;
+    }
+    cap_count(start_caps(segment.start)) + cap_count(end_caps(segment.end)) + 2
+}
+
+/// The lines of a segment whose start has no cap line (no join's is so).
+fn after_none(last: Caps, right: Line, left: Line) -> [[i64; 4]; 6]
+    ensures { λ r. ⌜ r ≡ rowsOf 6 (capLines last ++ (right ∷ left ∷ [])) ⌝ }
+{
+    let z = [0i64; 4];
+    let r = coordinates(right);
+    let l = coordinates(left);
+    match last {
+        Caps::One(c) => [coordinates(c), r, l, z, z, z],
+        Caps::Two(c, d) => [coordinates(c), coordinates(d), r, l, z, z],
+        Caps::Refused(_) => [r, l, z, z, z, z],
+    }
+}
+
+/// The lines of a segment whose start has one cap line.
+fn after_one(a: Line, last: Caps, right: Line, left: Line) -> [[i64; 4]; 6]
+    ensures { λ r. ⌜ r ≡ rowsOf 6 (a ∷ (capLines last ++ (right ∷ left ∷ []))) ⌝ }
+{
+    let z = [0i64; 4];
+    let f = coordinates(a);
+    let r = coordinates(right);
+    let l = coordinates(left);
+    match last {
+        Caps::One(c) => [f, coordinates(c), r, l, z, z],
+        Caps::Two(c, d) => [f, coordinates(c), coordinates(d), r, l, z],
+        Caps::Refused(_) => [f, r, l, z, z, z],
+    }
+}
+
+/// The lines of a segment whose start has two cap lines.
+fn after_two(a: Line, b: Line, last: Caps, right: Line, left: Line) -> [[i64; 4]; 6]
+    ensures { λ r. ⌜ r ≡ rowsOf 6 (a ∷ b ∷ (capLines last ++ (right ∷ left ∷ []))) ⌝ }
+{
+    let z = [0i64; 4];
+    let f = coordinates(a);
+    let g = coordinates(b);
+    let r = coordinates(right);
+    let l = coordinates(left);
+    match last {
+        Caps::One(c) => [f, g, coordinates(c), r, l, z],
+        Caps::Two(c, d) => [f, g, coordinates(c), coordinates(d), r, l],
+        Caps::Refused(_) => [f, g, r, l, z, z],
+    }
+}
+
+/// The line of four coordinates.
+fn line_at(row: [i64; 4]) -> Line
+    ensures { λ r. ⌜ r ≡ lineAt row ⌝ }
+{
+    Line {
+        start: Point {
+            x: row[0],
+            y: row[1],
+        },
+        end: Point {
+            x: row[2],
+            y: row[3],
+        },
+    }
+}
+
+/// The first `n` lines of a list, met by a span in their order.
+fn scan(span: Span, lines: [[i64; 4]; 6], n: usize) -> Span
+    requires { ⌜ n ≤ 6 ⌝ }
+    requires { ⌜ AllNear lineLimit lines ⌝ }
+    ensures { λ r. ⌜ r ≡ metRows span (take n lines) ⌝ }
+{
+    let mut met = span;
+    let mut i: usize = 0;
+    while i < n {
+        let row = lines[i];
+        met = meet(met, line_at(row));
+        i += 1;
+    }
+    met
+}
+
+/// The lines of a segment that are drawn, four coordinates each; behind them zeros.
+pub fn perimeter(segment: Segment) -> [[i64; 4]; 6]
+    requires { ⌜ SegmentNear cornerLimit segment ⌝ }
+    ensures { λ r. ⌜ r ≡ perimeterOf segment ⌝ }
+{
+    let e = edges(segment);
+    let right = e.right;
+    let left = e.left;
+    if is_skeleton(segment) {
+        let z = [0i64; 4];
+        return [coordinates(right), z, z, z, z, z];
+    }
+    let last = end_caps(segment.end);
+    let first = start_caps(segment.start);
+    match first {
+        Caps::One(a) => after_one(a, last, right, left),
+        Caps::Two(a, b) => after_two(a, b, last, right, left),
+        Caps::Refused(_) => after_none(last, right, left),
+    }
+}
+
+/// The span of a segment on a row: empty, 0 to 0, where none of its drawn lines has a point there.
+pub fn span(segment: Segment, row: i64) -> Span
+    requires { ⌜ SegmentNear cornerLimit segment ⌝ }
+    ensures { λ r. ⌜ r ≡ spanOn segment row ⌝ }
+{
+    let empty = Span {
+        row,
+        start: 0,
+        end: 0,
+    };
+    scan(empty, perimeter(segment), perimeter_count(segment))
+}

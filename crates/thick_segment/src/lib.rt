@@ -1,0 +1,172 @@
+//! A thick segment between two joins: whether it is a skeleton, its edges and their bounding box, the lines that are drawn, and its
+//! span on a row. `thick_segment.rs`.
+ghost use mathlib.Core.Path.{_≡_};
+ghost use Rattle.thick_segment.specs.Answers.{skeletonAnswer, edgesAnswer, boxAnswer, perimeterAnswer, countAnswer, spanAnswer};
+
+pub mod inner; // inner.rt: the same without the tests
+
+use inner::is_segment_near;
+use line_join::Join;
+use linear_equation::Tested;
+use scanline::Spanned;
+use shapes::Line;
+use shapes::Point;
+use shapes::Span;
+use shapes::refusals::CORNER;
+use shapes::refusals::ROW;
+use whole::inner::within;
+
+/// A thick line from the join at its start to the join at its end.
+pub struct Segment {
+    pub start: Join,
+    pub end: Join,
+}
+
+/// The two long edges of a segment: the right one runs along it, the left one back.
+pub struct EdgePair {
+    pub right: Line,
+    pub left: Line,
+}
+
+/// A box by its corners of least and of greatest coordinates, both included.
+pub struct Rectangle {
+    pub first: Point,
+    pub last: Point,
+}
+
+/// The edges, or the refusal with zeros.
+pub struct Edged {
+    pub refusal: u64,
+    pub edges: EdgePair,
+}
+
+/// The box, or the refusal with zeros.
+pub struct Boxed {
+    pub refusal: u64,
+    pub rectangle: Rectangle,
+}
+
+/// How many lines are drawn, or the refusal with 0.
+pub struct Counted {
+    pub refusal: u64,
+    pub count: usize,
+}
+
+/// Whether a segment is one pixel wide. A join with a corner beyond 4,095 is refused with 5.
+pub fn is_skeleton(segment: Segment) -> Tested
+    ensures { λ r. ⌜ r ≡ skeletonAnswer segment ⌝ }
+{
+    if is_segment_near(segment) {
+        return Tested {
+            refusal: 0,
+            holds: inner::is_skeleton(segment),
+        };
+    }
+    Tested {
+        refusal: CORNER,
+        holds: false,
+    }
+}
+
+/// The lines of a segment that are drawn, four coordinates each; behind them zeros. Zeros throughout where a join has a corner
+/// beyond 4,095: `perimeter_count` tells.
+pub fn perimeter(segment: Segment) -> [[i64; 4]; 6]
+    ensures { λ r. ⌜ r ≡ perimeterAnswer segment ⌝ }
+{
+    if is_segment_near(segment) {
+        return inner::perimeter(segment);
+    }
+    let z = [0i64; 4];
+    [z, z, z, z, z, z]
+}
+
+/// How many lines of a segment are drawn, six at most. A join with a corner beyond 4,095 is refused with 5.
+pub fn perimeter_count(segment: Segment) -> Counted
+    ensures { λ r. ⌜ r ≡ countAnswer segment ⌝ }
+{
+    if is_segment_near(segment) {
+        return Counted {
+            refusal: 0,
+            count: inner::perimeter_count(segment),
+        };
+    }
+    Counted {
+        refusal: CORNER,
+        count: 0,
+    }
+}
+
+/// The edges of a segment: the right one along it, the left one back. A join with a corner beyond 4,095 is refused with 5.
+pub fn edges(segment: Segment) -> Edged
+    ensures { λ r. ⌜ r ≡ edgesAnswer segment ⌝ }
+{
+    if is_segment_near(segment) {
+        return Edged {
+            refusal: 0,
+            edges: inner::edges(segment),
+        };
+    }
+    let zero = Point { x: 0, y: 0 };
+    let none = Line {
+        start: zero,
+        end: zero,
+    };
+    let edges = EdgePair {
+        right: none,
+        left: none,
+    };
+    Edged {
+        refusal: CORNER,
+        edges,
+    }
+}
+
+/// The box around a segment's edges; around a skeleton's left edge alone, as the Rust has it. A join with a corner beyond 4,095
+/// is refused with 5.
+pub fn edges_bounding_box(segment: Segment) -> Boxed
+    ensures { λ r. ⌜ r ≡ boxAnswer segment ⌝ }
+{
+    if is_segment_near(segment) {
+        return Boxed {
+            refusal: 0,
+            rectangle: inner::edges_bounding_box(segment),
+        };
+    }
+    let zero = Point { x: 0, y: 0 };
+    let rectangle = Rectangle {
+        first: zero,
+        last: zero,
+    };
+    Boxed {
+        refusal: CORNER,
+        rectangle,
+    }
+}
+
+/// The span of a segment on a row: empty, 0 to 0, where none of its drawn lines has a point there. A join with a corner beyond
+/// 4,095 is refused with 5; then a row outside 4,095 with 6.
+pub fn span(segment: Segment, row: i64) -> Spanned
+    ensures { λ r. ⌜ r ≡ spanAnswer segment row ⌝ }
+{
+    let zero = Span {
+        row: 0,
+        start: 0,
+        end: 0,
+    };
+    if is_segment_near(segment) {
+        if within(row, shapes::limits::CORNER) {
+            return Spanned {
+                refusal: 0,
+                span: inner::span(segment, row),
+            };
+        }
+        return Spanned {
+            refusal: ROW,
+            span: zero,
+        };
+    }
+    Spanned {
+        refusal: CORNER,
+        span: zero,
+    }
+}
