@@ -1,7 +1,7 @@
 -- What 01 says in words of the definitions of specs/: a rounded quotient is the nearest whole number, halves away from
 -- zero, and no other is; a test of bounds holds exactly within them. Assumes nothing.
 use mathlib.Core.Path.{_≡_, refl, sym, ap, _∙_}
-use mathlib.Core.Logic.{_≢_, _⊎_, inl, inr, ⊎-elim}
+use mathlib.Core.Logic.{_↔_, _≢_, _⊎_, inl, inr, ⊎-elim}
 use mathlib.Core.Bool.{Bool, true, false, cond}
 use Prim.Native.Nat.{ℕ, zero, suc, _+_, _*_, _-_, _/_, _≤_, _<_, zero-le}
 use native.Mathlib.Nat.{suc-add, mul-le-mul-left, mul-le-mul-right, mul-lt-mul-of-pos-right, le-of-mul-le-mul-right, lt-of-mul-lt-mul-right, eq-of-mul-eq-mul-right, div-add-mod', mod-lt}
@@ -29,6 +29,9 @@ false-within n z e = leb-false (natAbs z) n e
 pub within-true : {n : ℕ} {z : ℤ} → Within z n → isWithin n z ≡ true
 unfolding isWithin
 within-true {n} {z} w = le-leb (natAbs z) n (w .bound)
+
+pub within-iff : (n : ℕ) (z : ℤ) → (isWithin n z ≡ true) ↔ Within z n
+within-iff n z = (true-within n z, within-true)
 
 -- ---- the lesser and the greater
 
