@@ -11,9 +11,10 @@ use lib.IntN.{ℤ, pos}
 use lib.ListN.{length, getD, drop}
 use lib.Seq.{drop-cons, drop-length}
 use Rattle.whole.specs.Number.{isWithin, Within}
+use Rattle.shapes.specs.Shape.{Near}
 use Rattle.whole.proofs.Laws.{true-within, within-true}
 use Rattle.whole.proofs.Tests.{and-left, and-right}
-use Rattle.coordinates.specs.Points.{pointCount}
+use Rattle.coordinates.specs.Points.{pointAt, pointCount}
 use Rattle.coordinates.specs.Refusal.{isOdd, areWithin, AllWithin}
 
 -- ---- points and numbers
@@ -64,3 +65,8 @@ within-all k (c ∷ cs) h = rw (within-true (h 0)) (within-all k cs (λ i. h (su
 
 pub within-exactly : (k : ℕ) (cs : List ℤ) → (areWithin k cs ≡ true) ↔ AllWithin k cs
 within-exactly k cs = (λ e. record { within = all-within k cs e }, λ h. within-all k cs (h .within))
+
+-- every point of such a list is near
+pub point-near : {k : ℕ} {cs : List ℤ} → AllWithin k cs → (i : ℕ) → Near k (pointAt cs i)
+unfolding pointAt
+point-near a i = record { x-near = a .within (2 * i); y-near = a .within (2 * i + 1) }

@@ -1,6 +1,5 @@
 -- `coordinates::inner::point_at` meets its contract. Assumes nothing.
 use Prim.Native.Nat.{_+_, _*_, _<_}
-use native.Mathlib.Omega.{arith}
 use lib.IntN.{pos}
 use lib.ListN.{length, getD}
 use mir.Syntax.{w64}

@@ -1,0 +1,15 @@
+//! The joins and the segments of a route, each by its place, and what a step of a walk answers. The walks and a route's rows stand
+//! on it; it has no entries of its own.
+pub mod inner; // inner.rt: joins and segments of a list that is known to be within the limits
+
+use thick_segment::Segment;
+
+/// What a step of a walk answers.
+pub enum Step {
+    /// The segment at the walk's place.
+    Drawn(Segment),
+    /// There is no segment at the walk's place: it is past the last one.
+    End,
+    /// Nothing was worked out; the number says why.
+    Refused(u64),
+}
