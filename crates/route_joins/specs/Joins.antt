@@ -1,12 +1,13 @@
 -- The joins and the segments of a route by their place: thick_segment_iter.rs and closed_thick_segment_iter.rs, and 01's "Modules", 6.
-use mathlib.Core.Bool.{Bool, cond}
+use mathlib.Core.Bool.{Bool, true, _&&_, cond}
 use mathlib.Core.List.{List}
-use Prim.Native.Nat.{ℕ, _+_, _-_}
-use lib.Dec.{eqb}
+use Prim.Native.Nat.{ℕ, zero, suc, _+_, _-_}
+use lib.Dec.{eqb, leb}
 use lib.IntN.{ℤ}
 use Rattle.shapes.specs.declared.Offset.{Offset}
 use Rattle.shapes.specs.declared.Offset.the-variants.{None}
 use Rattle.line_join.specs.declared.Join.{Join}
+use Rattle.line_join.specs.Caps.{isJoinNear}
 use Rattle.line_join.specs.Join.{startOf, endOf, joinOf}
 use Rattle.thick_segment.specs.declared.Segment.{Segment}
 use Rattle.coordinates.specs.Points.{pointAt, pointCount}
@@ -46,3 +47,26 @@ closedSegment cs w o k = record { start = closedJoin cs w o k; end = closedJoin 
 -- n points give n - 1 segments of an open route, none where n is 0, and n of a closed one
 unfoldable pub openCount : List ℤ → ℕ
 openCount cs = pointCount cs - 1
+
+-- ---- a route, open or closed; a closed one has the offset None
+
+unfoldable pub joinAt : Bool → List ℤ → ℤ → ℕ → Join
+joinAt closed cs w i = cond closed (closedJoin cs w None i) (openJoin cs w i)
+
+unfoldable pub segmentAt : Bool → List ℤ → ℤ → ℕ → Segment
+segmentAt closed cs w k = cond closed (closedSegment cs w None k) (openSegment cs w k)
+
+unfoldable pub segmentCount : Bool → List ℤ → ℕ
+segmentCount closed cs = cond closed (pointCount cs) (openCount cs)
+
+-- a point alone has no join
+unfoldable pub joinCount : List ℤ → ℕ
+joinCount cs = cond (leb 2 (pointCount cs)) (pointCount cs) 0
+
+-- `left` joins from place i on have all their corners within k
+unfoldable pub nearFrom : ℕ → (ℕ → Join) → ℕ → ℕ → Bool
+nearFrom k join i zero = true
+nearFrom k join i (suc left) = isJoinNear k (join i) && nearFrom k join (suc i) left
+
+unfoldable pub areJoinsNear : ℕ → Bool → List ℤ → ℤ → Bool
+areJoinsNear k closed cs w = nearFrom k (joinAt closed cs w) 0 (joinCount cs)

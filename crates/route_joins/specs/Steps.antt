@@ -1,6 +1,5 @@
 -- What a step of a walk answers, and where it leaves the walk. A walk is its segments by their place, and how many there are.
-use mathlib.Core.Bool.{Bool, cond}
-use mathlib.Core.Path.{_≡_}
+use mathlib.Core.Bool.{cond}
 use Prim.Native.Nat.{ℕ, zero, suc, _+_}
 use lib.Dec.{eqb, ltb}
 use lib.IntN.{pos}

@@ -1,17 +1,18 @@
 //! Joins and segments by their place, of a list and a width that are known to be within the limits.
 ghost use mathlib.Core.Path.{_≡_};
 ghost use Prim.Native.Nat.{_+_, _≤_, _<_};
-ghost use Rattle.shapes.specs.Limits.{pointLimit};
+ghost use Rattle.shapes.specs.Limits.{pointLimit, cornerLimit};
 ghost use Rattle.line_join.specs.Miter.{Thin};
 ghost use Rattle.coordinates.specs.Points.{pointCount};
 ghost use Rattle.coordinates.specs.Refusal.{AllWithin};
 ghost use Rattle.route_joins.specs.Joins.{openJoin, closedJoin, bendAt, placeAfter, placeBefore};
-ghost use Rattle.route_joins.specs.Joins.{openSegment, closedSegment, openCount};
+ghost use Rattle.route_joins.specs.Joins.{openSegment, closedSegment, openCount, joinAt, areJoinsNear};
 use coordinates::inner::point_at;
 use coordinates::point_count;
 use line_join::Join;
 use line_join::inner::end;
 use line_join::inner::from_points;
+use line_join::inner::is_join_near;
 use line_join::inner::start;
 use shapes::Offset;
 use thick_segment::Segment;
@@ -142,4 +143,39 @@ pub fn open_count(coordinates: &[i64]) -> usize
         return 0;
     }
     count - 1
+}
+
+/// The join at the point at place `i` of a route of two points or more; of a closed one with the offset None.
+pub fn join_at(coordinates: &[i64], width: i64, closed: bool, i: usize) -> Join
+    requires { ⌜ AllWithin pointLimit (now coordinates) ⌝ }
+    requires { ⌜ Thin width ⌝ }
+    requires { ⌜ 2 ≤ pointCount (now coordinates) ⌝ }
+    requires { ⌜ i < pointCount (now coordinates) ⌝ }
+    ensures { λ r. ⌜ r ≡ joinAt closed (now (coordinates .entry)) width i ⌝ }
+{
+    if closed {
+        return closed_join(coordinates, width, Offset::None, i);
+    }
+    open_join(coordinates, width, i)
+}
+
+/// Whether every join of a route has all its corners within 4,095: if not, the route is refused with 5.
+pub fn are_joins_near(coordinates: &[i64], width: i64, closed: bool) -> bool
+    requires { ⌜ AllWithin pointLimit (now coordinates) ⌝ }
+    requires { ⌜ Thin width ⌝ }
+    ensures { λ r. ⌜ r ≡ areJoinsNear cornerLimit closed (now (coordinates .entry)) width ⌝ }
+{
+    let count = point_count(coordinates);
+    if count < 2 {
+        return true;
+    }
+    let mut i: usize = 0;
+    while i < count {
+        if is_join_near(join_at(coordinates, width, closed, i)) {
+            i += 1;
+        } else {
+            return false;
+        }
+    }
+    true
 }

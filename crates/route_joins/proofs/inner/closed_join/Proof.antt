@@ -1,13 +1,11 @@
 -- `route_joins::inner::closed_join` meets its contract. Assumes nothing.
 use mathlib.Core.Path.{sym, ap, _∙_}
-use native.Mathlib.Omega.{arith}
 use borrow.Author.Tests.{eq-eqb, ne-eqb}
-use Prim.Native.Nat.{_+_, _-_, _<_}
+use Prim.Native.Nat.{_+_}
 use Rattle.line_join.specs.Join.{startOf}
 use Rattle.line_join.proofs.Room.{thin-held, thin-back}
-use Rattle.coordinates.specs.Points.{pointCount}
 use Rattle.coordinates.proofs.Lists.{count-within, point-near}
-use Rattle.route_joins.specs.Joins.{bendAt, closedJoin, placeBefore, placeAfter}
+use Rattle.route_joins.specs.Joins.{bendAt, closedJoin}
 use Rattle.route_joins.proofs.Laws.{before-inside, after-inside}
 use borrow.Author.Needs.{needs}
 use Rattle.route_joins.proofs.inner.closed_join.Statement.{statement}

@@ -1,7 +1,5 @@
 -- `route_joins::inner::open_count` meets its contract. Assumes nothing.
-use mathlib.Core.Path.{ap, _∙_}
 use native.Mathlib.Omega.{arith}
-use Prim.Native.Nat.{_-_}
 use Rattle.route_joins.specs.Joins.{openCount}
 use borrow.Author.Needs.{needs}
 use Rattle.route_joins.proofs.inner.open_count.Statement.{statement}
