@@ -1,0 +1,4 @@
+pub mod Answering
+pub mod Laws
+pub mod Printed
+pub mod Reading
