@@ -17,7 +17,7 @@ use Rattle.shapes.specs.Refusals.{formRefused, roomRefused}
 use Rattle.route_file.specs.declared.inner.Entry.{Entry}
 use Rattle.route_file.specs.Numbers.{numberAt, signed, signedAt, signedFrom}
 use Rattle.route_file.specs.Form.{mostRoutes, routeCount, saidLength, entriesEnd, entryAt, EntryFormed, Formed, isEntryFormed, areFormed, isFormed}
-use Rattle.route_file.specs.Answers.{formRefusal, coordinates, pointsRefusal, pointed, pointedTo}
+use Rattle.route_file.specs.Answers.{formRefusal, nothing, describedBy, described, coordinates, pointsRefusal, pointed, pointedTo}
 use Rattle.route_file.proofs.Reading.{from-length, from-at}
 
 -- ---- the form: the test passes exactly where it is right
@@ -96,6 +96,31 @@ pub nine-exactly : (f : List ℕ) → (formRefusal f ≡ formRefused) ↔ (Forme
 unfolding formRefusal
 nine-exactly f = chosen-exactly (λ n. n) refl refl (lit≤ tt) (chosen (isFormed f) 0 formRefused (formed-exactly f))
 
+-- ---- an entry: refused by its form alone, and found exactly when the file has it
+
+refusal-of : (t u : Bool) (e : Entry) → cond (t && u) (describedBy e) (nothing (cond t 0 formRefused)) .refusal ≡ cond t 0 formRefused
+refusal-of true true e = refl
+refusal-of true false e = refl
+refusal-of false u e = refl
+
+found-of : (t u : Bool) (e : Entry) (n : ℕ) → (cond (t && u) (describedBy e) (nothing n) .found ≡ true) ↔ ((t ≡ true) × (u ≡ true))
+found-of true true e n = (λ h. (refl, refl), λ h. refl)
+found-of true false e n = (λ h. (refl, h), λ h. h .1)
+found-of false u e n = (λ h. (h, cc), λ h. h .0)
+
+module _ (f : List ℕ) (k : ℕ) where
+  pub entry-refusal : described f k .refusal ≡ formRefusal f
+  unfolding described formRefusal
+  entry-refusal = refusal-of (isFormed f) (ltb k (routeCount f)) (entryAt f k)
+
+  pub found-exactly : (described f k .found ≡ true) ↔ (Formed f × (k < routeCount f))
+  unfolding described
+  found-exactly =
+      let is = found-of (isFormed f) (ltb k (routeCount f)) (entryAt f k) (formRefusal f) in (
+        λ e. (true-formed f (is .0 e .0), ltb-true k (routeCount f) (is .0 e .1)),
+        λ h. is .1 (formed-true (h .0), lt-ltb k (routeCount f) (h .1)),
+      )
+
 -- ---- the points of a route: 9 exactly when the form is wrong, 8 exactly when it is right and the list has not enough numbers
 
 nine-of : (t u : Bool) {P : Type 0} → (t ≡ true) ↔ P → (cond t (cond u 0 roomRefused) formRefused ≡ formRefused) ↔ (P → ⊥)
@@ -171,3 +196,14 @@ signed-by n false e h = let high = ltb-false n 32768 e in rw e (omega (linear, d
 
 pub signed-range : (n : ℕ) → n < 65536 → (negsuc 32767 ≤ℤ signed n) × (signed n ≤ℤ pos 32767)
 signed-range n h = signed-by n (ltb n 32768) refl h
+
+-- a list of 32,768 numbers has room for the points of every route
+enough-by : (f : List ℕ) (k : ℕ) (t : Bool) → ltb k (routeCount f) ≡ t → Formed f → ((i : ℕ) → getD f i 0 < 256) → length (coordinates f k) ≤ 32768
+unfolding saidLength
+enough-by f k true e h small =
+    let known = ltb-true k (routeCount f) e in
+    omega (arith, coordinates-length f k known, h .each k known .inside, h .said, number-small f 2 (small 2) (small 3))
+enough-by f k false e h small = let none = coordinates-none f k (ltb-false k (routeCount f) e) in rw none (lit≤ tt)
+
+pub enough : (f : List ℕ) (k : ℕ) → Formed f → ((i : ℕ) → getD f i 0 < 256) → length (coordinates f k) ≤ 32768
+enough f k h small = enough-by f k (ltb k (routeCount f)) refl h small

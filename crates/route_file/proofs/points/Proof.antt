@@ -39,7 +39,7 @@ returns-2 c =
 entry-at-requires : tie.Need-entry-at-requires
 entry-at-requires c κs = omega (arith, formed (c .before .before) .entries, c .before .count-of .ensures, c .if2 .left)
 
--- what the file says of the route
+-- the file has the route
 known : (c : tie.Else2) → c .before .before .before .before .before .args .k < routeCount (c .before .before .before .before .before .args .file .now)
 known c = rw (c .before .count-of .ensures) at (c .if2 .left)
 
