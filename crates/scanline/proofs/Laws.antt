@@ -256,10 +256,10 @@ take-once s = once-by s (isEmpty s) refl
 
 -- ---- refusals, in 01's order: each exactly when
 
-none-exactly : (n : ℕ) → (eqb n 0 ≡ true) ↔ (n ≡ 0)
+pub none-exactly : (n : ℕ) → (eqb n 0 ≡ true) ↔ (n ≡ 0)
 none-exactly n = (eqb-true n 0, eq-eqb n 0)
 
-within-exactly : (k : ℕ) (z : ℤ) → (isWithin k z ≡ true) ↔ Within z k
+pub within-exactly : (k : ℕ) (z : ℤ) → (isWithin k z ≡ true) ↔ Within z k
 within-exactly k z = (true-within k z, within-true)
 
 -- 7: a column of the span is outside, or the column to be added is

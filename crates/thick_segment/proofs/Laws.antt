@@ -10,10 +10,10 @@ use Rattle.shapes.specs.declared.Point.{Point}
 use Rattle.shapes.specs.declared.Line.{Line}
 use Rattle.shapes.specs.declared.Span.{Span}
 use Rattle.shapes.specs.Shape.{pointOf, Near, LineNear}
-use Rattle.scanline.specs.Spans.{newSpan, Covers, isEmpty}
+use Rattle.scanline.specs.Spans.{newSpan, isEmpty}
 use Rattle.scanline.specs.Points.{linePoints}
 use Rattle.scanline.specs.Meeting.{seenAll, seen, met}
-use Rattle.scanline.specs.Words.{Sound, Column, before, met-at, End, kept, came, Least}
+use Rattle.scanline.specs.Words.{Sound, met-at, End, kept, came, Least}
 use Rattle.scanline.proofs.Folds.{covers-some, seen-least, seen-none}
 use Rattle.scanline.proofs.Laws.{met-sound}
 use Rattle.thick_segment.proofs.Drawn.{drawn-near}
@@ -21,7 +21,7 @@ use Rattle.thick_segment.proofs.Scanned.{Each, none, more}
 use Rattle.thick_segment.specs.declared.Segment.{Segment}
 use Rattle.thick_segment.specs.declared.Rectangle.{Rectangle}
 use Rattle.thick_segment.specs.Segments.{SegmentNear, isSkeleton, edgesOf, least, most, boxOf, union, boundingBox, drawn, metAll, spanOn}
-use Rattle.thick_segment.specs.Words.{pointsOf, drawnPoints}
+use Rattle.thick_segment.specs.Words.{pointsOf, drawnPoints, RectangleNear}
 
 -- ---- the span is that of all drawn points
 
@@ -74,10 +74,6 @@ new-sound row c h = absurd (clash refl (covers-some (newSpan row) c h))
 pub span-sound : {k : ℕ} (s : Segment) (row : ℤ) → SegmentNear k s → Sound k (spanOn s row)
 unfolding spanOn
 span-sound s row h = all-sound (newSpan row) (drawn s) (drawn-near s h) (new-sound row)
-
-pub record RectangleNear (k : ℕ) (r : Rectangle) : Type 0 where
-  pub first-near : Near k (r .first)
-  pub last-near : Near k (r .last)
 
 least-near : {k : ℕ} {a b : Point} → Near k a → Near k b → Near k (least a b)
 unfolding least

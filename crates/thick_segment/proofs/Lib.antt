@@ -1,4 +1,7 @@
+pub mod Answers
 pub mod Drawn
 pub mod Laws
-pub mod Near
+pub mod Numbers
+pub mod Placed
+pub mod Refused
 pub mod Scanned

@@ -1,42 +1,63 @@
--- The entries' answers: refusal 5 for a join with a corner beyond 4,095, then 6 for a row outside.
+-- The entries' answers, with k for the limit of corners and rows: refusal 5 for a join with a corner beyond it, then 6 for a row
+-- outside; a refusal has 0 in every other field.
 use mathlib.Core.Bool.{false, cond}
 use mathlib.Core.List.{List, []}
+use Prim.Native.Nat.{ℕ}
+use lib.Dec.{eqb}
 use lib.IntN.{ℤ, pos}
 use Rattle.whole.specs.Number.{isWithin}
-use Rattle.shapes.specs.Limits.{cornerLimit}
+use Rattle.shapes.specs.declared.Point.{Point}
+use Rattle.shapes.specs.declared.Line.{Line}
 use Rattle.shapes.specs.Refusals.{cornerRefused, rowRefused}
 use Rattle.shapes.specs.Shape.{pointOf, lineOf}
 use Rattle.linear_equation.specs.declared.Tested.{Tested}
 use Rattle.scanline.specs.declared.Spanned.{Spanned}
 use Rattle.scanline.specs.Spans.{newSpan}
+use Rattle.scanline.specs.Answers.{spanned}
 use Rattle.thick_segment.specs.declared.Segment.{Segment}
+use Rattle.thick_segment.specs.declared.EdgePair.{EdgePair}
+use Rattle.thick_segment.specs.declared.Rectangle.{Rectangle}
 use Rattle.thick_segment.specs.declared.Edged.{Edged}
 use Rattle.thick_segment.specs.declared.Boxed.{Boxed}
 use Rattle.thick_segment.specs.declared.Counted.{Counted}
 use Rattle.thick_segment.specs.Segments.{isSegmentNear, isSkeleton, edgesOf, boundingBox, rowsOf, perimeterOf, countOf, spanOn}
 
-unfoldable pub skeletonAnswer : Segment → Tested
-skeletonAnswer s = cond (isSegmentNear cornerLimit s) (record { refusal = 0; holds = isSkeleton s }) (record { refusal = cornerRefused; holds = false })
+-- ---- what stands for nothing in a refusal
 
-unfoldable pub edgesAnswer : Segment → Edged
-edgesAnswer s =
-    let none = lineOf (pointOf (pos 0) (pos 0)) (pointOf (pos 0) (pos 0)) in
-    cond (isSegmentNear cornerLimit s) (record { refusal = 0; edges = edgesOf s }) (record { refusal = cornerRefused; edges = record { right = none; left = none } })
+abbrev pub noPoint : Point
+noPoint = pointOf (pos 0) (pos 0)
 
-unfoldable pub boxAnswer : Segment → Boxed
-boxAnswer s =
-    let zero = pointOf (pos 0) (pos 0) in
-    cond (isSegmentNear cornerLimit s) (record { refusal = 0; rectangle = boundingBox s }) (record { refusal = cornerRefused; rectangle = record { first = zero; last = zero } })
+abbrev pub noLine : Line
+noLine = lineOf noPoint noPoint
 
--- a refused perimeter is six lines of zeros
-unfoldable pub perimeterAnswer : Segment → List (List ℤ)
-perimeterAnswer s = cond (isSegmentNear cornerLimit s) (perimeterOf s) (rowsOf 6 [])
+abbrev pub noEdges : EdgePair
+noEdges = record { right = noLine; left = noLine }
 
-unfoldable pub countAnswer : Segment → Counted
-countAnswer s = cond (isSegmentNear cornerLimit s) (record { refusal = 0; count = countOf s }) (record { refusal = cornerRefused; count = 0 })
+abbrev pub noBox : Rectangle
+noBox = record { first = noPoint; last = noPoint }
 
-unfoldable pub spanAnswer : Segment → ℤ → Spanned
-spanAnswer s row =
-    cond (isSegmentNear cornerLimit s)
-    (cond (isWithin cornerLimit row) (record { refusal = 0; span = spanOn s row }) (record { refusal = rowRefused; span = newSpan (pos 0) }))
-    (record { refusal = cornerRefused; span = newSpan (pos 0) })
+-- ---- the entries that can be refused with 5 alone
+
+unfoldable pub skeletonAnswer : ℕ → Segment → Tested
+skeletonAnswer k s = cond (isSegmentNear k s) (record { refusal = 0; holds = isSkeleton s }) (record { refusal = cornerRefused; holds = false })
+
+unfoldable pub edgesAnswer : ℕ → Segment → Edged
+edgesAnswer k s = cond (isSegmentNear k s) (record { refusal = 0; edges = edgesOf s }) (record { refusal = cornerRefused; edges = noEdges })
+
+unfoldable pub boxAnswer : ℕ → Segment → Boxed
+boxAnswer k s = cond (isSegmentNear k s) (record { refusal = 0; rectangle = boundingBox s }) (record { refusal = cornerRefused; rectangle = noBox })
+
+-- a refused perimeter is six lines of zeros; its number is the count's
+unfoldable pub perimeterAnswer : ℕ → Segment → List (List ℤ)
+perimeterAnswer k s = cond (isSegmentNear k s) (perimeterOf s) (rowsOf 6 [])
+
+unfoldable pub countAnswer : ℕ → Segment → Counted
+countAnswer k s = cond (isSegmentNear k s) (record { refusal = 0; count = countOf s }) (record { refusal = cornerRefused; count = 0 })
+
+-- ---- the span: 5, then 6
+
+unfoldable pub spanRefusal : ℕ → Segment → ℤ → ℕ
+spanRefusal k s row = cond (isSegmentNear k s) (cond (isWithin k row) 0 rowRefused) cornerRefused
+
+unfoldable pub spanAnswer : ℕ → Segment → ℤ → Spanned
+spanAnswer k s row = cond (eqb (spanRefusal k s row) 0) (spanned 0 (spanOn s row)) (spanned (spanRefusal k s row) (newSpan (pos 0)))

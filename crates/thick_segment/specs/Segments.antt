@@ -1,9 +1,9 @@
 -- 01, thick_segment.rs: a skeleton, the edges, their bounding box, the lines that are drawn, and the span on a row.
 use mathlib.Core.Bool.{Bool, _&&_, cond}
 use mathlib.Core.List.{List, [], _∷_, _++_}
-use Prim.Native.Nat.{ℕ, zero, suc}
+use Prim.Native.Nat.{ℕ, zero, suc, _+_}
 use lib.IntN.{ℤ, pos}
-use lib.ListN.{length, getD}
+use lib.ListN.{length, getD, set}
 use Rattle.whole.specs.Number.{eqZ, lesser, greater}
 use Rattle.shapes.specs.declared.Point.{Point}
 use Rattle.shapes.specs.declared.Line.{Line}
@@ -86,6 +86,11 @@ unfoldable pub rowsOf : ℕ → List Line → List (List ℤ)
 rowsOf zero ls = []
 rowsOf (suc n) [] = blank ∷ rowsOf n []
 rowsOf (suc n) (l ∷ ls) = coordinates l ∷ rowsOf n ls
+
+-- the rows with those of the lines from place `at` on, as the code writes them
+unfoldable pub placed : List (List ℤ) → ℕ → List Line → List (List ℤ)
+placed rows at [] = rows
+placed rows at (l ∷ ls) = placed (set rows at (coordinates l)) (at + 1) ls
 
 unfoldable pub perimeterOf : Segment → List (List ℤ)
 perimeterOf s = rowsOf 6 (drawn s)

@@ -1,13 +1,12 @@
 //! Segments, for the crates above: no test of the input, but bounds that the caller shows.
 ghost use mathlib.Core.Path.{_≡_};
-ghost use Prim.Native.Nat.{_≤_};
-ghost use mathlib.Core.List.{[], _∷_, _++_};
-ghost use lib.ListN.{length, take};
+ghost use Prim.Native.Nat.{_≤_, _<_};
+ghost use lib.ListN.{length, take, set};
 ghost use Rattle.shapes.specs.Limits.{cornerLimit, lineLimit};
 ghost use Rattle.shapes.specs.Shape.{lineOf};
 ghost use Rattle.thick_segment.specs.Segments.{SegmentNear, isSegmentNear, samePoint, isSkeleton, edgesOf};
 ghost use Rattle.thick_segment.specs.Segments.{least as leastOf, most as mostOf, boxOf, union as unionOf, boundingBox};
-ghost use Rattle.thick_segment.specs.Segments.{coordinates as coordinatesOf, capLines, rowsOf, countOf, lineAt, AllNear, metRows, perimeterOf, spanOn};
+ghost use Rattle.thick_segment.specs.Segments.{coordinates as coordinatesOf, capLines, placed, countOf, lineAt, AllNear, metRows, perimeterOf, spanOn};
 use crate::EdgePair;
 use crate::Rectangle;
 use crate::Segment;
@@ -161,48 +160,25 @@ pub fn perimeter_count(segment: Segment) -> usize
     cap_count(start_caps(segment.start)) + cap_count(end_caps(segment.end)) + 2
 }
 
-/// The lines of a segment whose start has no cap line (no join's is so).
-fn after_none(last: Caps, right: Line, left: Line) -> [[i64; 4]; 6]
-    ensures { λ r. ⌜ r ≡ rowsOf 6 (capLines last ++ (right ∷ left ∷ [])) ⌝ }
+/// Rows of coordinates with a line's in place of row `at`.
+fn with_line(rows: [[i64; 4]; 6], at: usize, line: Line) -> [[i64; 4]; 6]
+    requires { ⌜ at < 6 ⌝ }
+    ensures { λ r. ⌜ r ≡ set rows at (coordinatesOf line) ⌝ }
 {
-    let z = [0i64; 4];
-    let r = coordinates(right);
-    let l = coordinates(left);
-    match last {
-        Caps::One(c) => [coordinates(c), r, l, z, z, z],
-        Caps::Two(c, d) => [coordinates(c), coordinates(d), r, l, z, z],
-        Caps::Refused(_) => [r, l, z, z, z, z],
-    }
+    let mut now = rows;
+    now[at] = coordinates(line);
+    now
 }
 
-/// The lines of a segment whose start has one cap line.
-fn after_one(a: Line, last: Caps, right: Line, left: Line) -> [[i64; 4]; 6]
-    ensures { λ r. ⌜ r ≡ rowsOf 6 (a ∷ (capLines last ++ (right ∷ left ∷ []))) ⌝ }
+/// Rows of coordinates with those of the lines that close an end from row `at` on.
+fn with_caps(rows: [[i64; 4]; 6], at: usize, caps: Caps) -> [[i64; 4]; 6]
+    requires { ⌜ at ≤ 4 ⌝ }
+    ensures { λ r. ⌜ r ≡ placed rows at (capLines caps) ⌝ }
 {
-    let z = [0i64; 4];
-    let f = coordinates(a);
-    let r = coordinates(right);
-    let l = coordinates(left);
-    match last {
-        Caps::One(c) => [f, coordinates(c), r, l, z, z],
-        Caps::Two(c, d) => [f, coordinates(c), coordinates(d), r, l, z],
-        Caps::Refused(_) => [f, r, l, z, z, z],
-    }
-}
-
-/// The lines of a segment whose start has two cap lines.
-fn after_two(a: Line, b: Line, last: Caps, right: Line, left: Line) -> [[i64; 4]; 6]
-    ensures { λ r. ⌜ r ≡ rowsOf 6 (a ∷ b ∷ (capLines last ++ (right ∷ left ∷ []))) ⌝ }
-{
-    let z = [0i64; 4];
-    let f = coordinates(a);
-    let g = coordinates(b);
-    let r = coordinates(right);
-    let l = coordinates(left);
-    match last {
-        Caps::One(c) => [f, g, coordinates(c), r, l, z],
-        Caps::Two(c, d) => [f, g, coordinates(c), coordinates(d), r, l],
-        Caps::Refused(_) => [f, g, r, l, z, z],
+    match caps {
+        Caps::One(a) => with_line(rows, at, a),
+        Caps::Two(a, b) => with_line(with_line(rows, at, a), at + 1, b),
+        Caps::Refused(_) => rows,
     }
 }
 
@@ -246,17 +222,17 @@ pub fn perimeter(segment: Segment) -> [[i64; 4]; 6]
     let e = edges(segment);
     let right = e.right;
     let left = e.left;
+    let z = [0i64; 4];
+    let none = [z, z, z, z, z, z];
     if is_skeleton(segment) {
-        let z = [0i64; 4];
-        return [coordinates(right), z, z, z, z, z];
+        return with_line(none, 0, right);
     }
-    let last = end_caps(segment.end);
     let first = start_caps(segment.start);
-    match first {
-        Caps::One(a) => after_one(a, last, right, left),
-        Caps::Two(a, b) => after_two(a, b, last, right, left),
-        Caps::Refused(_) => after_none(last, right, left),
-    }
+    let last = end_caps(segment.end);
+    let mid = cap_count(first);
+    let capped = with_caps(with_caps(none, 0, first), mid, last);
+    let side = mid + cap_count(last);
+    with_line(with_line(capped, side, right), side + 1, left)
 }
 
 /// The span of a segment on a row: empty, 0 to 0, where none of its drawn lines has a point there.

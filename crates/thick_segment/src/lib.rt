@@ -1,7 +1,8 @@
 //! A thick segment between two joins: whether it is a skeleton, its edges and their bounding box, the lines that are drawn, and its
 //! span on a row. `thick_segment.rs`.
 ghost use mathlib.Core.Path.{_≡_};
-ghost use Rattle.thick_segment.specs.Answers.{skeletonAnswer, edgesAnswer, boxAnswer, perimeterAnswer, countAnswer, spanAnswer};
+ghost use Rattle.shapes.specs.Limits.{cornerLimit};
+ghost use Rattle.thick_segment.specs.Answers.{skeletonAnswer, edgesAnswer, boxAnswer, perimeterAnswer, countAnswer, spanRefusal, spanAnswer};
 
 pub mod inner; // inner.rt: the same without the tests
 
@@ -54,7 +55,7 @@ pub struct Counted {
 
 /// Whether a segment is one pixel wide. A join with a corner beyond 4,095 is refused with 5.
 pub fn is_skeleton(segment: Segment) -> Tested
-    ensures { λ r. ⌜ r ≡ skeletonAnswer segment ⌝ }
+    ensures { λ r. ⌜ r ≡ skeletonAnswer cornerLimit segment ⌝ }
 {
     if is_segment_near(segment) {
         return Tested {
@@ -71,7 +72,7 @@ pub fn is_skeleton(segment: Segment) -> Tested
 /// The lines of a segment that are drawn, four coordinates each; behind them zeros. Zeros throughout where a join has a corner
 /// beyond 4,095: `perimeter_count` tells.
 pub fn perimeter(segment: Segment) -> [[i64; 4]; 6]
-    ensures { λ r. ⌜ r ≡ perimeterAnswer segment ⌝ }
+    ensures { λ r. ⌜ r ≡ perimeterAnswer cornerLimit segment ⌝ }
 {
     if is_segment_near(segment) {
         return inner::perimeter(segment);
@@ -82,7 +83,7 @@ pub fn perimeter(segment: Segment) -> [[i64; 4]; 6]
 
 /// How many lines of a segment are drawn, six at most. A join with a corner beyond 4,095 is refused with 5.
 pub fn perimeter_count(segment: Segment) -> Counted
-    ensures { λ r. ⌜ r ≡ countAnswer segment ⌝ }
+    ensures { λ r. ⌜ r ≡ countAnswer cornerLimit segment ⌝ }
 {
     if is_segment_near(segment) {
         return Counted {
@@ -98,7 +99,7 @@ pub fn perimeter_count(segment: Segment) -> Counted
 
 /// The edges of a segment: the right one along it, the left one back. A join with a corner beyond 4,095 is refused with 5.
 pub fn edges(segment: Segment) -> Edged
-    ensures { λ r. ⌜ r ≡ edgesAnswer segment ⌝ }
+    ensures { λ r. ⌜ r ≡ edgesAnswer cornerLimit segment ⌝ }
 {
     if is_segment_near(segment) {
         return Edged {
@@ -124,7 +125,7 @@ pub fn edges(segment: Segment) -> Edged
 /// The box around a segment's edges; around a skeleton's left edge alone, as the Rust has it. A join with a corner beyond 4,095
 /// is refused with 5.
 pub fn edges_bounding_box(segment: Segment) -> Boxed
-    ensures { λ r. ⌜ r ≡ boxAnswer segment ⌝ }
+    ensures { λ r. ⌜ r ≡ boxAnswer cornerLimit segment ⌝ }
 {
     if is_segment_near(segment) {
         return Boxed {
@@ -146,27 +147,34 @@ pub fn edges_bounding_box(segment: Segment) -> Boxed
 /// The span of a segment on a row: empty, 0 to 0, where none of its drawn lines has a point there. A join with a corner beyond
 /// 4,095 is refused with 5; then a row outside 4,095 with 6.
 pub fn span(segment: Segment, row: i64) -> Spanned
-    ensures { λ r. ⌜ r ≡ spanAnswer segment row ⌝ }
+    ensures { λ r. ⌜ r ≡ spanAnswer cornerLimit segment row ⌝ }
 {
-    let zero = Span {
-        row: 0,
-        start: 0,
-        end: 0,
-    };
-    if is_segment_near(segment) {
-        if within(row, shapes::limits::CORNER) {
-            return Spanned {
-                refusal: 0,
-                span: inner::span(segment, row),
-            };
-        }
+    let refusal = span_refusal(segment, row);
+    if refusal == 0 {
         return Spanned {
-            refusal: ROW,
-            span: zero,
+            refusal: 0,
+            span: inner::span(segment, row),
         };
     }
     Spanned {
-        refusal: CORNER,
-        span: zero,
+        refusal,
+        span: Span {
+            row: 0,
+            start: 0,
+            end: 0,
+        },
     }
+}
+
+/// The refusal of a segment and a row, 0 where there is none: 5, then 6.
+fn span_refusal(segment: Segment, row: i64) -> u64
+    ensures { λ r. ⌜ r ≡ spanRefusal cornerLimit segment row ⌝ }
+{
+    if is_segment_near(segment) {
+        if within(row, shapes::limits::CORNER) {
+            return 0;
+        }
+        return ROW;
+    }
+    CORNER
 }

@@ -4,7 +4,7 @@ use borrow.Author.Needs.{needs}
 use Rattle.shapes.specs.Limits.{cornerLimit}
 use Rattle.thick_segment.specs.Segments.{isSegmentNear, rowsOf}
 use Rattle.thick_segment.specs.Answers.{perimeterAnswer}
-use Rattle.thick_segment.proofs.Near.{true-segment-near}
+use Rattle.thick_segment.proofs.Refused.{segment-near-iff}
 use Rattle.thick_segment.proofs.perimeter.Statement.{statement}
 use Rattle.thick_segment.proofs.perimeter.Tie as tie
 
@@ -15,7 +15,7 @@ is-segment-near-requires : tie.Need-is-segment-near-requires
 is-segment-near-requires c κs = search needs
 
 perimeter-requires : tie.Need-perimeter-requires
-perimeter-requires c κs = true-segment-near (c .before .before .args .segment) (inside c)
+perimeter-requires c κs = segment-near-iff cornerLimit (c .before .before .args .segment) .0 (inside c)
 
 returns : tie.Need-returns
 unfolding perimeterAnswer

@@ -4,7 +4,7 @@ use borrow.Author.Needs.{needs}
 use Rattle.shapes.specs.Limits.{cornerLimit}
 use Rattle.thick_segment.specs.Segments.{isSegmentNear}
 use Rattle.thick_segment.specs.Answers.{countAnswer}
-use Rattle.thick_segment.proofs.Near.{true-segment-near}
+use Rattle.thick_segment.proofs.Refused.{segment-near-iff}
 use Rattle.thick_segment.proofs.perimeter_count.Statement.{statement}
 use Rattle.thick_segment.proofs.perimeter_count.Tie as tie
 
@@ -15,7 +15,7 @@ is-segment-near-requires : tie.Need-is-segment-near-requires
 is-segment-near-requires c κs = search needs
 
 perimeter-count-requires : tie.Need-perimeter-count-requires
-perimeter-count-requires c κs = true-segment-near (c .before .before .args .segment) (inside c)
+perimeter-count-requires c κs = segment-near-iff cornerLimit (c .before .before .args .segment) .0 (inside c)
 
 returns : tie.Need-returns
 unfolding countAnswer

@@ -1,25 +1,21 @@
-use mathlib.Core.Path.{_≡_, sym, ap, _∙_}
+use mathlib.Core.Path.{sym, ap, _∙_}
 use mathlib.Core.List.{[], _∷_, _++_}
-use Rattle.line_join.specs.declared.Caps.{Caps}
-use Rattle.line_join.specs.declared.Caps.the-variants.{One, Two, Refused}
-use Rattle.line_join.specs.Caps.{endCapsOf}
-use Rattle.thick_segment.specs.Segments.{coordinates, capLines, edgesOf, drawn, rowsOf, perimeterOf}
+use Prim.Native.Nat.{_+_, _≤_}
+use native.Mathlib.Omega.{arith}
 use borrow.Author.Needs.{needs}
+use lib.ListN.{set}
+use Rattle.line_join.specs.Caps.{startCapsOf, endCapsOf}
+use Rattle.thick_segment.specs.Segments.{coordinates, capLines, drawn, rowsOf, placed, perimeterOf}
+use Rattle.thick_segment.proofs.Drawn.{caps-most}
+use Rattle.thick_segment.proofs.Placed.{placed-all}
 use Rattle.thick_segment.proofs.inner.perimeter.Statement.{statement}
 use Rattle.thick_segment.proofs.inner.perimeter.Tie as tie
 
--- what closes the start, then the end, then the edges
-closes : (c : tie.After-start-caps) (k : Caps) → c .start-caps .result ≡ k → rowsOf 6 (capLines k ++ (capLines (c .before .end-caps .result) ++ (c .before .before .before .before .before .before .edges .result .right ∷ c .before .before .before .before .before .before .edges .result .left ∷ []))) ≡ perimeterOf (c .before .before .before .before .before .before .before .args .segment)
-unfolding perimeterOf drawn
-closes c k e =
-    let t = c .before .before in
-    let d = t .before .before .before .before in
-    let s = d .before .args .segment in
-    let E = d .edges .result in
-    ap (λ w. rowsOf 6 (capLines k ++ (capLines w ++ (E .right ∷ E .left ∷ [])))) (c .before .end-caps .ensures)
-    ∙ ap (λ w. rowsOf 6 (capLines k ++ (capLines (endCapsOf (s .end)) ++ (w .right ∷ w .left ∷ [])))) (d .edges .ensures)
-    ∙ ap (λ w. rowsOf 6 (capLines w ++ (capLines (endCapsOf (s .end)) ++ (edgesOf s .right ∷ edgesOf s .left ∷ [])))) (sym e ∙ c .start-caps .ensures)
-    ∙ sym (simp (sym (t .before .is-skeleton .ensures) ∙ t .if1 .left))
+first-most : (c : tie.After-cap-count) → c .cap-count .result ≤ 2
+first-most c = omega (arith, caps-most (c .before .before .start-caps .result), c .cap-count .ensures)
+
+last-most : (c : tie.After-cap-count2) → c .cap-count2 .result ≤ 2
+last-most c = omega (arith, caps-most (c .before .before .before .before .end-caps .result), c .cap-count2 .ensures)
 
 edges-requires : tie.Need-edges-requires
 edges-requires c κs = search needs
@@ -27,48 +23,69 @@ edges-requires c κs = search needs
 is-skeleton-requires : tie.Need-is-skeleton-requires
 is-skeleton-requires c κs = search needs
 
-coordinates-requires : tie.Need-coordinates-requires
-coordinates-requires c κs = search needs
+with-line-requires : tie.Need-with-line-requires
+with-line-requires c κs = search needs
 
 returns : tie.Need-returns
 unfolding perimeterOf drawn rowsOf
 returns c =
     let t = c .before in
     let d = t .before .before .before .before in
-    simp (sym (t .before .is-skeleton .ensures) ∙ t .if1 .taken, c .coordinates .ensures ∙ ap (λ w. coordinates (w .right)) (d .edges .ensures))
-
-end-caps-requires : tie.Need-end-caps-requires
-end-caps-requires c κs = search needs
+    c .with-line .ensures ∙ simp (sym (t .before .is-skeleton .ensures) ∙ t .if1 .taken, d .edges .ensures)
 
 start-caps-requires : tie.Need-start-caps-requires
 start-caps-requires c κs = search needs
 
-enum-known-first : tie.Need-enum-known-first
-enum-known-first c = search needs
+end-caps-requires : tie.Need-end-caps-requires
+end-caps-requires c κs = search needs
 
-after-one-requires : tie.Need-after-one-requires
-after-one-requires c κs = search needs
+cap-count-requires : tie.Need-cap-count-requires
+cap-count-requires c κs = search needs
 
-enum-known-first-2 : tie.Need-enum-known-first-2
-enum-known-first-2 c = search needs
+with-caps-requires : tie.Need-with-caps-requires
+with-caps-requires c κs = search needs
 
-after-two-requires : tie.Need-after-two-requires
-after-two-requires c κs = search needs
+with-caps-requires-2 : tie.Need-with-caps-requires-2
+with-caps-requires-2 c κs = omega (arith, first-most (c .before))
 
-enum-told : tie.Need-enum-told
-enum-told c = search needs
+cap-count-requires-2 : tie.Need-cap-count-requires-2
+cap-count-requires-2 c κs = search needs
 
-after-none-requires : tie.Need-after-none-requires
-after-none-requires c κs = search needs
+add-side : tie.Need-add-side
+add-side c = omega (arith, first-most (c .before .before .before), last-most c)
+
+with-line-requires-2 : tie.Need-with-line-requires-2
+with-line-requires-2 c κs = omega (arith, first-most (c .before .before .before), last-most c)
+
+add-with-line : tie.Need-add-with-line
+add-with-line c = omega (arith, first-most (c .before .before .before .before), last-most (c .before))
+
+with-line-requires-3 : tie.Need-with-line-requires-3
+with-line-requires-3 c κs = omega (arith, first-most (c .before .before .before .before), last-most (c .before))
 
 returns-2 : tie.Need-returns-2
-returns-2 c = let f = c .before .before in c .after-one .ensures ∙ closes (f .before .before) (One (f .first .given .0 .0)) (f .first .given .1)
-
-returns-3 : tie.Need-returns-3
-returns-3 c = let f = c .before .before in c .after-two .ensures ∙ closes (f .before .before) (Two (f .first2 .given .0 .0) (f .first2 .given .0 .1 .0)) (f .first2 .given .1)
-
-returns-4 : tie.Need-returns-4
-returns-4 c = let f = c .before in c .after-none .ensures ∙ closes (f .before .before) (Refused (f .enum-told .given .0 .0)) (f .enum-told .given .1)
+unfolding perimeterOf drawn rowsOf
+returns-2 c =
+    let counted = c .before .before in
+    let capped = counted .before in
+    let first = capped .before .before in
+    let caps = first .before in
+    let t = caps .before .before in
+    let d = t .before .before .before .before in
+    let s = d .before .args .segment in
+    let e = d .edges .result in
+    let i = first .cap-count .result in
+    let j = counted .cap-count2 .result in
+    let start = caps .before .start-caps .result in
+    let end = caps .end-caps .result in
+    let lines = capped .with-caps2 .ensures ∙ ap (λ rows. placed rows i (capLines end)) (capped .before .with-caps .ensures) in
+    c .with-line3 .ensures
+    ∙ ap (λ rows. set rows (i + j + 1) (coordinates (e .left))) (c .before .with-line2 .ensures ∙ ap (λ rows. set rows (i + j) (coordinates (e .right))) lines)
+    ∙ placed-all 6 (capLines start) (capLines end) (e .right) (e .left) (first .cap-count .ensures) (counted .cap-count2 .ensures) (omega (arith, caps-most start, caps-most end))
+    ∙ ap (λ k. rowsOf 6 (capLines k ++ (capLines end ++ (e .right ∷ e .left ∷ [])))) (caps .before .start-caps .ensures)
+    ∙ ap (λ k. rowsOf 6 (capLines (startCapsOf (s .start)) ++ (capLines k ++ (e .right ∷ e .left ∷ [])))) (caps .end-caps .ensures)
+    ∙ ap (λ k. rowsOf 6 (capLines (startCapsOf (s .start)) ++ (capLines (endCapsOf (s .end)) ++ (k .right ∷ k .left ∷ [])))) (d .edges .ensures)
+    ∙ sym (simp (sym (t .before .is-skeleton .ensures) ∙ t .if1 .left))
 
 pub perimeter-spec : {M : Type 1} → statement M
 perimeter-spec =
@@ -76,16 +93,16 @@ perimeter-spec =
     (tie.spec
     edges-requires
     is-skeleton-requires
-    coordinates-requires
+    with-line-requires
     returns
-    end-caps-requires
     start-caps-requires
-    enum-known-first
-    after-one-requires
-    enum-known-first-2
-    after-two-requires
-    enum-told
-    after-none-requires
-    returns-2
-    returns-3
-    returns-4)
+    end-caps-requires
+    cap-count-requires
+    with-caps-requires
+    with-caps-requires-2
+    cap-count-requires-2
+    add-side
+    with-line-requires-2
+    add-with-line
+    with-line-requires-3
+    returns-2)

@@ -1,19 +1,11 @@
 use mathlib.Core.Path.{sym, ap, _∙_}
-use Prim.Native.Nat.{_≤_}
 use native.Mathlib.Omega.{arith}
-use lib.Dec.{lit≤}
 use lib.ListN.{length, length-append}
-use Rattle.line_join.specs.declared.Caps.{Caps}
-use Rattle.line_join.specs.declared.Caps.the-variants.{One, Two, Refused}
 use Rattle.thick_segment.specs.Segments.{capLines, drawn, countOf}
+use Rattle.thick_segment.proofs.Drawn.{caps-most}
 use borrow.Author.Needs.{needs}
 use Rattle.thick_segment.proofs.inner.perimeter_count.Statement.{statement}
 use Rattle.thick_segment.proofs.inner.perimeter_count.Tie as tie
-
-caps-most : (k : Caps) → length (capLines k) ≤ 2
-caps-most (One l) = lit≤ tt
-caps-most (Two l m) = lit≤ tt
-caps-most (Refused n) = lit≤ tt
 
 is-skeleton-requires : tie.Need-is-skeleton-requires
 is-skeleton-requires c κs = search needs
