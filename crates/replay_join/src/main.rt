@@ -14,6 +14,7 @@ use line_join::from_points;
 use line_join::is_degenerate;
 use line_join::start;
 use line_join::start_cap_lines;
+use replay_joins::join_at;
 use replay_text::after;
 use replay_text::line_at;
 use replay_text::offset_at;
@@ -47,7 +48,7 @@ fn answer(questions: &[u8], at: usize) {
         b'a' => answer_start(questions, first),
         b'z' => answer_end(questions, first),
         b'j' => answer_points(questions, first),
-        b'f' => say_lines(join_at(questions, first)),
+        b'f' => answer_lines(questions, first),
         _ => {}
     }
     say(b"\n");
@@ -79,35 +80,10 @@ fn answer_points(questions: &[u8], at: usize) {
     say_joined(from_points(line.start, line.end, point, width.value, offset));
 }
 
-/// A kind by its number, and eight coordinates.
-fn join_at(questions: &[u8], at: usize) -> Join {
-    let kind = kind_of(text::byte_at(questions, at));
-    let first = line_at(questions, after(after(at)));
-    let second = line_at(questions, first.next);
-    let ending = first.line;
-    let starting = second.line;
-    let a = ending.start;
-    let b = ending.end;
-    let c = starting.start;
-    let d = starting.end;
-    Join {
-        kind,
-        ending: Corners { left: a, right: b },
-        starting: Corners { left: c, right: d },
-    }
-}
-
-fn kind_of(digit: u8) -> Kind {
-    match digit {
-        b'0' => Kind::Miter,
-        b'1' => Kind::Bevel(Side::Left),
-        b'2' => Kind::Bevel(Side::Right),
-        b'3' => Kind::Degenerate(Side::Left),
-        b'4' => Kind::Degenerate(Side::Right),
-        b'5' => Kind::Colinear,
-        b'6' => Kind::Start,
-        _ => Kind::End,
-    }
+fn answer_lines(questions: &[u8], at: usize) {
+    let asked = join_at(questions, at);
+    let join = asked.join;
+    say_lines(join);
 }
 
 fn say_joined(joined: Joined) {

@@ -1,9 +1,7 @@
 //! Answers questions on segments between two joins and on spans of a row: one line of standard input, one line of standard
 //! output. What it must write stands in `stdout`, and comes from two other calculations of the same rules (oracle/README.md).
 use libc::STDIN_FILENO;
-use line_join::Corners;
-use line_join::Join;
-use line_join::Kind;
+use replay_joins::join_at;
 use replay_text::after;
 use replay_text::line_at;
 use replay_text::say;
@@ -18,7 +16,6 @@ use scanline::Extended;
 use scanline::Spanned;
 use scanline::meet;
 use scanline::try_extend;
-use shapes::Side;
 use shapes::Span;
 use shapes::limits::CORNER;
 use thick_segment::Boxed;
@@ -31,12 +28,6 @@ use thick_segment::perimeter;
 use thick_segment::perimeter_count;
 use thick_segment::span;
 use whole::inner::within;
-
-/// A join that was read, and the place of the number after it.
-struct JoinAt {
-    join: Join,
-    next: usize,
-}
 
 /// A segment that was read, and the place of the number after it.
 struct SegmentAt {
@@ -116,41 +107,6 @@ fn segment_at(questions: &[u8], at: usize) -> SegmentAt {
     SegmentAt {
         segment: Segment { start, end },
         next: last.next,
-    }
-}
-
-/// A kind by its number, and eight coordinates.
-fn join_at(questions: &[u8], at: usize) -> JoinAt {
-    let kind = kind_of(text::byte_at(questions, at));
-    let first = line_at(questions, after(after(at)));
-    let second = line_at(questions, first.next);
-    let ending = first.line;
-    let starting = second.line;
-    let a = ending.start;
-    let b = ending.end;
-    let c = starting.start;
-    let d = starting.end;
-    let join = Join {
-        kind,
-        ending: Corners { left: a, right: b },
-        starting: Corners { left: c, right: d },
-    };
-    JoinAt {
-        join,
-        next: second.next,
-    }
-}
-
-fn kind_of(digit: u8) -> Kind {
-    match digit {
-        b'0' => Kind::Miter,
-        b'1' => Kind::Bevel(Side::Left),
-        b'2' => Kind::Bevel(Side::Right),
-        b'3' => Kind::Degenerate(Side::Left),
-        b'4' => Kind::Degenerate(Side::Right),
-        b'5' => Kind::Colinear,
-        b'6' => Kind::Start,
-        _ => Kind::End,
     }
 }
 

@@ -1,0 +1,62 @@
+//! Joins in the questions of the programs that replay stored questions.
+ghost use mathlib.Core.Path.{_≡_};
+ghost use Rattle.line_join.specs.Join.{cornersOf};
+ghost use Rattle.replay_joins.specs.Joins.{kindOf, joinAt};
+use line_join::Corners;
+use line_join::Join;
+use line_join::Kind;
+use replay_text::after;
+use replay_text::line_at;
+use shapes::Line;
+use shapes::Side;
+
+/// A join that was read, and the place of the number after it.
+pub struct JoinAt {
+    pub join: Join,
+    pub next: usize,
+}
+
+/// The join at a place: a digit for its kind, and eight coordinates, a byte between each two. The corners at which the line
+/// before it ends come first, left before right.
+pub fn join_at(s: &[u8], at: usize) -> JoinAt
+    ensures { λ r. ⌜ r ≡ joinAt (now (s .entry)) at ⌝ }
+{
+    let kind = kind_of(text::byte_at(s, at));
+    let first = line_at(s, after(after(at)));
+    let second = line_at(s, first.next);
+    let ending = first.line;
+    let starting = second.line;
+    JoinAt {
+        join: Join {
+            kind,
+            ending: corners_of(ending),
+            starting: corners_of(starting),
+        },
+        next: second.next,
+    }
+}
+
+/// The left and the right corner: a line's start and end.
+fn corners_of(line: Line) -> Corners
+    ensures { λ r. ⌜ r ≡ cornersOf (line .start) (line .end) ⌝ }
+{
+    let left = line.start;
+    let right = line.end;
+    Corners { left, right }
+}
+
+/// The kind that a digit stands for; all else is the end of a route.
+fn kind_of(digit: u8) -> Kind
+    ensures { λ r. ⌜ r ≡ kindOf digit ⌝ }
+{
+    match digit {
+        b'0' => Kind::Miter,
+        b'1' => Kind::Bevel(Side::Left),
+        b'2' => Kind::Bevel(Side::Right),
+        b'3' => Kind::Degenerate(Side::Left),
+        b'4' => Kind::Degenerate(Side::Right),
+        b'5' => Kind::Colinear,
+        b'6' => Kind::Start,
+        _ => Kind::End,
+    }
+}
