@@ -7,7 +7,7 @@ use Prim.Native.Nat.{ℕ}
 use borrow.Author.Tests.{eqb-true, eq-eqb}
 use lib.Dec.{eqb}
 use lib.IntN.{ℤ, pos, negℤ, _+ℤ_, _-ℤ_}
-use lib.Signed.{ltZ, leZ, _≤ℤ_}
+use lib.Signed.{ltZ, leZ}
 use Rattle.whole.specs.Number.{Within, isWithin, eqZ, lesser, greater}
 use Rattle.whole.proofs.Linear.{linear, sum, diff}
 use Rattle.whole.proofs.Laws.{lesser-le, le-greater, true-within, within-true}
@@ -27,7 +27,7 @@ use Rattle.scanline.specs.Words.{Sound, Apart, Column, before, met-at, E
 use Rattle.scanline.specs.Answers.{columnRefusal, orElse, spanRefusal, extendRefusal, meetRefusal, joinRefusal}
 use Rattle.scanline.specs.Answers.{spanned, freshAnswer, extendAnswer, meetAnswer, tryExtendAnswer, tryTakeAnswer}
 use Rattle.scanline.proofs.Folds.{covers-some, covers-first, covers-last, seen-least, seen-none}
-use Rattle.scanline.proofs.Lines.{Between, nth, x-between, y-between, contiguous}
+use Rattle.scanline.proofs.Lines.{Between, nth, x-between, y-between, met-contiguous}
 
 -- ---- a line's points lie in the box of its ends
 
@@ -45,11 +45,7 @@ pub met-least : (s : Span) (l : Line) → Least s (linePoints l) (met s l)
 unfolding met
 met-least s l = seen-least s (linePoints l)
 
--- those columns are contiguous
-pub met-contiguous : (l : Line) (q r : Point) (c : ℤ) → List·Memᴰ q (linePoints l) → List·Memᴰ r (linePoints l) → q .y ≡ r .y → q .x ≤ℤ c → c ≤ℤ r .x → List·Memᴰ (pointOf c (q .y)) (linePoints l)
-met-contiguous l q r c mq mr e low high = contiguous l q r c mq mr e low high
-
--- so an empty span covers afterwards just the columns of the line's points on its row
+-- those columns are contiguous (`met-contiguous`, in Lines.antt), so an empty span covers afterwards just the columns of the line's points on its row
 point-of : {s : Span} {ps : List Point} {e c : ℤ} → isEmpty s ≡ true → End s e ps c → List·Memᴰ (pointOf c (s .row)) ps
 point-of none (kept some is) = absurd (clash none some)
 point-of none (came q m on at) = Memᴰ·cast (rw (← at, ← on)) m
@@ -60,7 +56,7 @@ met-covers s l c none =
     let r = met s l in (
       λ h.
           let some = covers-some r c h in
-          contiguous l (pointOf (r .start) (s .row)) (pointOf (r .end -ℤ pos 1) (s .row)) c (point-of none (w .first some)) (point-of none (w .final some)) refl (h .from) (omega (ordered, diff (r .end) (pos 1))),
+          met-contiguous l (pointOf (r .start) (s .row)) (pointOf (r .end -ℤ pos 1) (s .row)) c (point-of none (w .first some)) (point-of none (w .final some)) refl (h .from) (omega (ordered, diff (r .end) (pos 1))),
       λ m. w .holds c (met-at (pointOf c (s .row)) m refl refl),
     )
 
@@ -208,20 +204,20 @@ join-covers s o g c =
     let high = le-greater (s .end) (o .end) in
     (joined-to s o c (ltZ c (s .start)) (ltZ c (s .end)) refl refl a b, ⊎-elim (λ h. omega ordered) (λ h. omega ordered))
 
-refused-by : (s o : Span) (a b t : Bool) → isEmpty s ≡ a → isEmpty o ≡ b → touches s o ≡ t → (tryExtended s o .joined ≡ false) ↔ ((isEmpty s ≡ false) × ((isEmpty o ≡ false) × Apart s o))
-refused-by s o true b t e f g = (λ h. absurd (clash refl (rw (join-from-empty s o e) at h)), λ w. absurd (clash e (w .0)))
-refused-by s o false true t e f g = (λ h. absurd (clash refl (rw (join-with-empty s o e f) at h)), λ w. absurd (clash f (w .1 .0)))
-refused-by s o false false true e f g = (λ h. absurd (clash refl (rw (join-touching s o e f g) at h)), λ w. absurd (clash g (touches-exactly s o .1 (w .1 .1))))
-refused-by s o false false false e f g = (λ h. (e, (f, touches-exactly s o .0 g)), λ w. rw (join-apart s o e f g))
+no-by : (s o : Span) (a b t : Bool) → isEmpty s ≡ a → isEmpty o ≡ b → touches s o ≡ t → (tryExtended s o .joined ≡ false) ↔ ((isEmpty s ≡ false) × ((isEmpty o ≡ false) × Apart s o))
+no-by s o true b t e f g = (λ h. absurd (clash refl (rw (join-from-empty s o e) at h)), λ w. absurd (clash e (w .0)))
+no-by s o false true t e f g = (λ h. absurd (clash refl (rw (join-with-empty s o e f) at h)), λ w. absurd (clash f (w .1 .0)))
+no-by s o false false true e f g = (λ h. absurd (clash refl (rw (join-touching s o e f g) at h)), λ w. absurd (clash g (touches-exactly s o .1 (w .1 .1))))
+no-by s o false false false e f g = (λ h. (e, (f, touches-exactly s o .0 g)), λ w. rw (join-apart s o e f g))
 
 -- no exactly when neither is empty and a dark column lies between them
-pub join-refused : (s o : Span) → (tryExtended s o .joined ≡ false) ↔ ((isEmpty s ≡ false) × ((isEmpty o ≡ false) × Apart s o))
-join-refused s o = refused-by s o (isEmpty s) (isEmpty o) (touches s o) refl refl refl
+pub join-no : (s o : Span) → (tryExtended s o .joined ≡ false) ↔ ((isEmpty s ≡ false) × ((isEmpty o ≡ false) × Apart s o))
+join-no s o = no-by s o (isEmpty s) (isEmpty o) (touches s o) refl refl refl
 
 -- then nothing changes
-pub refused-stays : (s o : Span) → tryExtended s o .joined ≡ false → tryExtended s o .span ≡ s
-refused-stays s o h =
-    let w = join-refused s o .0 h in
+pub no-stays : (s o : Span) → tryExtended s o .joined ≡ false → tryExtended s o .span ≡ s
+no-stays s o h =
+    let w = join-no s o .0 h in
     ap (λ j. j .span) (join-apart s o (w .0) (w .1 .0) (touches-exactly s o .1 (w .1 .1)))
 
 covers-by : (s o : Span) (c : ℤ) (a b t : Bool) → isEmpty s ≡ a → isEmpty o ≡ b → touches s o ≡ t → tryExtended s o .joined ≡ true → Covers (tryExtended s o .span) c ↔ (Covers s c ⊎ Covers o c)

@@ -445,7 +445,7 @@ amid-same l i j m a e =
     a
 
 -- the point of the row in a column between two others
-same-point : {p : Point} {x y : ℤ} → p .x ≡ x → p .y ≡ y → p ≡ pointOf x y
+pub same-point : {p : Point} {x y : ℤ} → p .x ≡ x → p .y ≡ y → p ≡ pointOf x y
 same-point d e = rw (← d, ← e) refl
 
 record Found (l : Line) (c y : ℤ) : Type 0 where
@@ -472,8 +472,9 @@ found-by l i j c false w hi hj e low high =
       y-is = at-by l (m .steps) false w .1 ∙ ap (λ n. l .start .y +ℤ pos n *ℤ directionOf (delta l .y)) turned ∙ sym (at-by l i false w .1);
     }
 
-pub contiguous : (l : Line) (q r : Point) (c : ℤ) → List·Memᴰ q (linePoints l) → List·Memᴰ r (linePoints l) → q .y ≡ r .y → q .x ≤ℤ c → c ≤ℤ r .x → List·Memᴰ (pointOf c (q .y)) (linePoints l)
-contiguous l q r c mq mr e low high =
+-- a line's points on one row are contiguous
+pub met-contiguous : (l : Line) (q r : Point) (c : ℤ) → List·Memᴰ q (linePoints l) → List·Memᴰ r (linePoints l) → q .y ≡ r .y → q .x ≤ℤ c → c ≤ℤ r .x → List·Memᴰ (pointOf c (q .y)) (linePoints l)
+met-contiguous l q r c mq mr e low high =
     let i = nth mq in
     let j = nth mr in
     let qi = i .is in

@@ -15,7 +15,7 @@ use shapes::refusals::COORDINATE;
 use shapes::refusals::ROW;
 use whole::inner::within;
 
-/// A span, or the refusal with the span handed in as it was.
+/// A span, or the refusal with the span handed in as it was, or with zeros where none was handed in.
 pub struct Spanned {
     pub refusal: u64,
     pub span: Span,

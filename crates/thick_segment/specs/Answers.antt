@@ -6,11 +6,9 @@ use Prim.Native.Nat.{ℕ}
 use lib.Dec.{eqb}
 use lib.IntN.{ℤ, pos}
 use Rattle.whole.specs.Number.{isWithin}
-use Rattle.shapes.specs.declared.Point.{Point}
-use Rattle.shapes.specs.declared.Line.{Line}
 use Rattle.shapes.specs.Refusals.{cornerRefused, rowRefused}
-use Rattle.shapes.specs.Shape.{pointOf, lineOf}
 use Rattle.linear_equation.specs.declared.Tested.{Tested}
+use Rattle.line_join.specs.Answers.{noPoint, noLine}
 use Rattle.scanline.specs.declared.Spanned.{Spanned}
 use Rattle.scanline.specs.Spans.{newSpan}
 use Rattle.scanline.specs.Answers.{spanned}
@@ -23,12 +21,6 @@ use Rattle.thick_segment.specs.declared.Counted.{Counted}
 use Rattle.thick_segment.specs.Segments.{isSegmentNear, isSkeleton, edgesOf, boundingBox, rowsOf, perimeterOf, countOf, spanOn}
 
 -- ---- what stands for nothing in a refusal
-
-abbrev pub noPoint : Point
-noPoint = pointOf (pos 0) (pos 0)
-
-abbrev pub noLine : Line
-noLine = lineOf noPoint noPoint
 
 abbrev pub noEdges : EdgePair
 noEdges = record { right = noLine; left = noLine }

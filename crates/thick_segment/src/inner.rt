@@ -160,7 +160,7 @@ pub fn perimeter_count(segment: Segment) -> usize
     cap_count(start_caps(segment.start)) + cap_count(end_caps(segment.end)) + 2
 }
 
-/// Rows of coordinates with a line's in place of row `at`.
+/// The rows, with a line's coordinates as row `at`.
 fn with_line(rows: [[i64; 4]; 6], at: usize, line: Line) -> [[i64; 4]; 6]
     requires { ⌜ at < 6 ⌝ }
     ensures { λ r. ⌜ r ≡ set rows at (coordinatesOf line) ⌝ }
@@ -170,7 +170,7 @@ fn with_line(rows: [[i64; 4]; 6], at: usize, line: Line) -> [[i64; 4]; 6]
     now
 }
 
-/// Rows of coordinates with those of the lines that close an end from row `at` on.
+/// The rows, with the coordinates of the lines that close an end from row `at` on.
 fn with_caps(rows: [[i64; 4]; 6], at: usize, caps: Caps) -> [[i64; 4]; 6]
     requires { ⌜ at ≤ 4 ⌝ }
     ensures { λ r. ⌜ r ≡ placed rows at (capLines caps) ⌝ }
@@ -229,10 +229,10 @@ pub fn perimeter(segment: Segment) -> [[i64; 4]; 6]
     }
     let first = start_caps(segment.start);
     let last = end_caps(segment.end);
-    let mid = cap_count(first);
-    let capped = with_caps(with_caps(none, 0, first), mid, last);
-    let side = mid + cap_count(last);
-    with_line(with_line(capped, side, right), side + 1, left)
+    let after_start = cap_count(first);
+    let capped = with_caps(with_caps(none, 0, first), after_start, last);
+    let after_end = after_start + cap_count(last);
+    with_line(with_line(capped, after_end, right), after_end + 1, left)
 }
 
 /// The span of a segment on a row: empty, 0 to 0, where none of its drawn lines has a point there.

@@ -51,8 +51,8 @@ with-caps-requires-2 c κs = omega (arith, first-most (c .before))
 cap-count-requires-2 : tie.Need-cap-count-requires-2
 cap-count-requires-2 c κs = search needs
 
-add-side : tie.Need-add-side
-add-side c = omega (arith, first-most (c .before .before .before), last-most c)
+add-after-end : tie.Need-add-after-end
+add-after-end c = omega (arith, first-most (c .before .before .before), last-most c)
 
 with-line-requires-2 : tie.Need-with-line-requires-2
 with-line-requires-2 c κs = omega (arith, first-most (c .before .before .before), last-most c)
@@ -101,7 +101,7 @@ perimeter-spec =
     with-caps-requires
     with-caps-requires-2
     cap-count-requires-2
-    add-side
+    add-after-end
     with-line-requires-2
     add-with-line
     with-line-requires-3
