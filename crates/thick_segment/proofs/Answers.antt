@@ -21,7 +21,7 @@ use Rattle.thick_segment.specs.declared.Segment.{Segment}
 use Rattle.thick_segment.specs.Segments.{SegmentNear, isSegmentNear, isSkeleton, edgesOf, boundingBox, rowsOf, perimeterOf, countOf, spanOn}
 use Rattle.thick_segment.specs.Words.{HasRow}
 use Rattle.thick_segment.specs.Answers.{noEdges, noBox, skeletonAnswer, edgesAnswer, boxAnswer, perimeterAnswer, countAnswer, spanRefusal, spanAnswer}
-use Rattle.thick_segment.proofs.Refused.{segment-near-iff, span-none}
+use Rattle.thick_segment.proofs.Refused.{segment-near-iff, segment-none}
 use Rattle.thick_segment.proofs.Laws.{span-sound, box-near}
 
 module _ (k : ℕ) (s : Segment) where
@@ -93,4 +93,4 @@ module _ (k : ℕ) (s : Segment) where
     pub span-columns : spanAnswer k s row .refusal ≡ 0 → Sound k (spanAnswer k s row .span)
     span-columns e =
         let none = sym span-refusal ∙ e in
-        rw (span-chosen .holds none) (span-sound s row (span-none k s row .0 none .0))
+        rw (span-chosen .holds none) (span-sound s row (segment-none k s row .0 none .0))

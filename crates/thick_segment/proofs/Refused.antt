@@ -55,11 +55,11 @@ module _ (k : ℕ) (s : Segment) (row : ℤ) where
   unfolding spanRefusal
   ordered = ordered-by (isSegmentNear k s) (isWithin k row) (segment-near-iff k s) (within-exactly k row)
 
-  pub span-none : (spanRefusal k s row ≡ 0) ↔ (SegmentNear k s × Within row k)
-  span-none = ordered .none
+  pub segment-none : (spanRefusal k s row ≡ 0) ↔ (SegmentNear k s × Within row k)
+  segment-none = ordered .none
 
-  pub span-five : (spanRefusal k s row ≡ 5) ↔ (SegmentNear k s → ⊥)
-  span-five = ordered .five
+  pub segment-five : (spanRefusal k s row ≡ 5) ↔ (SegmentNear k s → ⊥)
+  segment-five = ordered .five
 
-  pub span-six : (spanRefusal k s row ≡ 6) ↔ (SegmentNear k s × (Within row k → ⊥))
-  span-six = ordered .six
+  pub segment-six : (spanRefusal k s row ≡ 6) ↔ (SegmentNear k s × (Within row k → ⊥))
+  segment-six = ordered .six

@@ -5,7 +5,7 @@ use mir.Facts.{toZ-ofZ}
 use Rattle.shapes.specs.Limits.{cornerLimit}
 use Rattle.thick_segment.specs.Segments.{spanOn}
 use Rattle.thick_segment.specs.Answers.{spanRefusal, spanAnswer}
-use Rattle.thick_segment.proofs.Refused.{span-none}
+use Rattle.thick_segment.proofs.Refused.{segment-none}
 use Rattle.thick_segment.proofs.span.Statement.{statement}
 use Rattle.thick_segment.proofs.span.Tie as tie
 
@@ -19,7 +19,7 @@ accepted : (c : tie.Then1) → spanRefusal cornerLimit (c .before .before .args 
 accepted c = sym (refusal-is (c .before)) ∙ c .if1 .taken
 
 span-requires : tie.Need-span-requires
-span-requires c κs = let a = c .before .before .args in span-none cornerLimit (a .segment) (a .row) .0 (accepted c) .0
+span-requires c κs = let a = c .before .before .args in segment-none cornerLimit (a .segment) (a .row) .0 (accepted c) .0
 
 returns : tie.Need-returns
 unfolding spanAnswer
