@@ -4,16 +4,15 @@ use mathlib.Core.Logic.{_⊎_, _↔_, inl, inr, ⊎-elim}
 use mathlib.Core.Bool.{Bool, true, false, _||_}
 use mathlib.Core.List.{List, List·Memᴰ, Memᴰ·cast}
 use Prim.Native.Nat.{ℕ}
-use borrow.Author.Tests.{eqb-true, eq-eqb}
 use lib.Dec.{eqb}
 use lib.IntN.{ℤ, pos, negℤ, _+ℤ_, _-ℤ_}
 use lib.Signed.{ltZ, leZ}
 use Rattle.whole.specs.Number.{Within, isWithin, eqZ, lesser, greater}
 use Rattle.whole.proofs.Linear.{linear, sum, diff}
-use Rattle.whole.proofs.Laws.{lesser-le, le-greater, true-within, within-true}
+use Rattle.whole.proofs.Laws.{lesser-le, le-greater, true-within, within-true, within-iff}
 use Rattle.whole.proofs.Machine.{eqZ-refl}
 use Rattle.whole.proofs.Spans.{ordered, clash, else-true, else-false, eqZ-true, within-low, within-high, within-of, within-lesser, within-greater, lesser-other, greater-other}
-use Rattle.whole.proofs.Tests.{and-left, and-right, Chosen, chosen}
+use Rattle.whole.proofs.Tests.{and-left, and-right, eqb-iff, Chosen, chosen}
 use Rattle.shapes.specs.declared.Point.{Point}
 use Rattle.shapes.specs.declared.Line.{Line}
 use Rattle.shapes.specs.declared.Span.{Span}
@@ -252,23 +251,17 @@ take-once s = once-by s (isEmpty s) refl
 
 -- ---- refusals, in 01's order: each exactly when
 
-pub none-exactly : (n : ℕ) → (eqb n 0 ≡ true) ↔ (n ≡ 0)
-none-exactly n = (eqb-true n 0, eq-eqb n 0)
-
-pub within-exactly : (k : ℕ) (z : ℤ) → (isWithin k z ≡ true) ↔ Within z k
-within-exactly k z = (true-within k z, within-true)
-
 -- 7: a column of the span is outside, or the column to be added is
 pub span-seven : (s : Span) → Chosen (Sound cornerLimit s) (columnRefusal (isSound cornerLimit s)) 0 7
 span-seven s = chosen (isSound cornerLimit s) 0 7 (sound-exactly cornerLimit s)
 
 pub column-seven : (c : ℤ) → Chosen (Within c cornerLimit) (columnRefusal (isWithin cornerLimit c)) 0 7
-column-seven c = chosen (isWithin cornerLimit c) 0 7 (within-exactly cornerLimit c)
+column-seven c = chosen (isWithin cornerLimit c) 0 7 (within-iff cornerLimit c)
 
 -- 6 before it: the row is outside
 pub span-six : (s : Span) → Chosen (Within (s .row) cornerLimit) (spanRefusal s) (columnRefusal (isSound cornerLimit s)) 6
 unfolding spanRefusal
-span-six s = chosen (isWithin cornerLimit (s .row)) _ 6 (within-exactly cornerLimit (s .row))
+span-six s = chosen (isWithin cornerLimit (s .row)) _ 6 (within-iff cornerLimit (s .row))
 
 -- 4 before them: a coordinate of the line is beyond 4,095
 pub meet-four : (s : Span) (l : Line) → Chosen (LineNear cornerLimit l) (meetRefusal s l) (spanRefusal s) 4
@@ -278,7 +271,7 @@ meet-four s l = chosen (isLineNear cornerLimit l) _ 4 (line-near-iff cornerLimit
 -- a column to be added is looked at last
 pub extend-next : (s : Span) (c : ℤ) → Chosen (spanRefusal s ≡ 0) (extendRefusal s c) (columnRefusal (isWithin cornerLimit c)) (spanRefusal s)
 unfolding extendRefusal
-extend-next s c = chosen (eqb (spanRefusal s) 0) _ (spanRefusal s) (none-exactly (spanRefusal s))
+extend-next s c = chosen (eqb (spanRefusal s) 0) _ (spanRefusal s) (eqb-iff (spanRefusal s) 0)
 
 -- 6 also where two rows differ; then the span, then the other's columns
 pub join-six : (s o : Span) → Chosen (s .row ≡ o .row) (joinRefusal s o) (orElse (spanRefusal s) (columnRefusal (isSound cornerLimit o))) 6
@@ -286,26 +279,26 @@ unfolding joinRefusal
 join-six s o = chosen (eqZ (s .row) (o .row)) _ 6 (eqZ-true (s .row) (o .row), λ e. rw e (eqZ-refl (o .row)))
 
 pub join-next : (s o : Span) → Chosen (spanRefusal s ≡ 0) (orElse (spanRefusal s) (columnRefusal (isSound cornerLimit o))) (columnRefusal (isSound cornerLimit o)) (spanRefusal s)
-join-next s o = chosen (eqb (spanRefusal s) 0) _ (spanRefusal s) (none-exactly (spanRefusal s))
+join-next s o = chosen (eqb (spanRefusal s) 0) _ (spanRefusal s) (eqb-iff (spanRefusal s) 0)
 
 -- ---- the entries: the answer where there is no refusal, else the refusal with the span handed in as it was
 
 pub fresh-chosen : (row : ℤ) → Chosen (Within row cornerLimit) (freshAnswer row) (spanned 0 (newSpan row)) (spanned 6 (newSpan (pos 0)))
 unfolding freshAnswer
-fresh-chosen row = chosen (isWithin cornerLimit row) _ _ (within-exactly cornerLimit row)
+fresh-chosen row = chosen (isWithin cornerLimit row) _ _ (within-iff cornerLimit row)
 
 pub extend-chosen : (s : Span) (c : ℤ) → Chosen (extendRefusal s c ≡ 0) (extendAnswer s c) (spanned 0 (extended s c)) (spanned (extendRefusal s c) s)
 unfolding extendAnswer
-extend-chosen s c = chosen (eqb (extendRefusal s c) 0) _ _ (none-exactly (extendRefusal s c))
+extend-chosen s c = chosen (eqb (extendRefusal s c) 0) _ _ (eqb-iff (extendRefusal s c) 0)
 
 pub meet-chosen : (s : Span) (l : Line) → Chosen (meetRefusal s l ≡ 0) (meetAnswer s l) (spanned 0 (met s l)) (spanned (meetRefusal s l) s)
 unfolding meetAnswer
-meet-chosen s l = chosen (eqb (meetRefusal s l) 0) _ _ (none-exactly (meetRefusal s l))
+meet-chosen s l = chosen (eqb (meetRefusal s l) 0) _ _ (eqb-iff (meetRefusal s l) 0)
 
 pub try-extend-chosen : (s o : Span) → Chosen (joinRefusal s o ≡ 0) (tryExtendAnswer s o) (record { refusal = 0; joined = tryExtended s o .joined; span = tryExtended s o .span }) (record { refusal = joinRefusal s o; joined = false; span = s })
 unfolding tryExtendAnswer
-try-extend-chosen s o = chosen (eqb (joinRefusal s o) 0) _ _ (none-exactly (joinRefusal s o))
+try-extend-chosen s o = chosen (eqb (joinRefusal s o) 0) _ _ (eqb-iff (joinRefusal s o) 0)
 
 pub try-take-chosen : (s : Span) → Chosen (spanRefusal s ≡ 0) (tryTakeAnswer s) (record { refusal = 0; taken = tryTaken s .taken; span = tryTaken s .span; rest = tryTaken s .rest }) (record { refusal = spanRefusal s; taken = false; span = newSpan (pos 0); rest = s })
 unfolding tryTakeAnswer
-try-take-chosen s = chosen (eqb (spanRefusal s) 0) _ _ (none-exactly (spanRefusal s))
+try-take-chosen s = chosen (eqb (spanRefusal s) 0) _ _ (eqb-iff (spanRefusal s) 0)

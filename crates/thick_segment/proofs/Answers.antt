@@ -12,11 +12,10 @@ use lib.IntN.{ℤ, pos}
 use Rattle.whole.specs.Number.{Within}
 use Rattle.whole.proofs.Linear.{linear}
 use Rattle.whole.proofs.Spans.{within-low, within-high, within-of}
-use Rattle.whole.proofs.Tests.{Chosen, chosen, chosen-exactly}
+use Rattle.whole.proofs.Tests.{eqb-iff, Chosen, chosen, chosen-exactly}
 use Rattle.scanline.specs.Spans.{newSpan}
 use Rattle.scanline.specs.Words.{Sound}
 use Rattle.scanline.specs.Answers.{spanned}
-use Rattle.scanline.proofs.Laws.{none-exactly}
 use Rattle.thick_segment.specs.declared.Segment.{Segment}
 use Rattle.thick_segment.specs.Segments.{SegmentNear, isSegmentNear, isSkeleton, edgesOf, boundingBox, rowsOf, perimeterOf, countOf, spanOn}
 use Rattle.thick_segment.specs.Words.{HasRow}
@@ -79,7 +78,7 @@ module _ (k : ℕ) (s : Segment) where
   module _ (row : ℤ) where
     pub span-chosen : Chosen (spanRefusal k s row ≡ 0) (spanAnswer k s row) (spanned 0 (spanOn s row)) (spanned (spanRefusal k s row) (newSpan (pos 0)))
     unfolding spanAnswer
-    span-chosen = chosen (eqb (spanRefusal k s row) 0) _ _ (none-exactly (spanRefusal k s row))
+    span-chosen = chosen (eqb (spanRefusal k s row) 0) _ _ (eqb-iff (spanRefusal k s row) 0)
 
     refusal-by : (t : Bool) → eqb (spanRefusal k s row) 0 ≡ t → spanAnswer k s row .refusal ≡ spanRefusal k s row
     unfolding spanAnswer

@@ -6,11 +6,10 @@ use Prim.Native.Nat.{ℕ}
 use native.Mathlib.Omega.{arith}
 use lib.IntN.{ℤ}
 use Rattle.whole.specs.Number.{Within, isWithin}
-use Rattle.whole.proofs.Spans.{clash}
-use Rattle.whole.proofs.Tests.{and-iff}
+use Rattle.whole.proofs.Tests.{and-iff, never, good-first, good-later}
 use Rattle.line_join.specs.Caps.{isJoinNear}
 use Rattle.line_join.proofs.Room.{join-near-iff}
-use Rattle.scanline.proofs.Laws.{within-exactly}
+use Rattle.whole.proofs.Laws.{within-iff}
 use Rattle.thick_segment.specs.declared.Segment.{Segment}
 use Rattle.thick_segment.specs.Segments.{SegmentNear, isSegmentNear}
 use Rattle.thick_segment.specs.Answers.{spanRefusal}
@@ -24,42 +23,19 @@ segment-near-iff k s =
 
 -- ---- the span's two refusals, in 01's order
 
--- n is 5 exactly when P fails, 6 exactly when P holds and Q fails, and else 0
-record Ordered (P Q : Type 0) (n : ℕ) : Type 0 where
-  none : (n ≡ 0) ↔ (P × Q)
-  five : (n ≡ 5) ↔ (P → ⊥)
-  six : (n ≡ 6) ↔ (P × (Q → ⊥))
-
-ordered-by : {P Q : Type 0} (t u : Bool) → (t ≡ true) ↔ P → (u ≡ true) ↔ Q → Ordered P Q (cond t (cond u 0 6) 5)
-ordered-by true true p q =
-    record {
-      none = (λ e. (p .0 refl, q .0 refl), λ h. refl);
-      five = (λ e. absurd (omega arith), λ no. absurd (no (p .0 refl)));
-      six = (λ e. absurd (omega arith), λ h. absurd (h .1 (q .0 refl)));
-    }
-ordered-by true false p q =
-    record {
-      none = (λ e. absurd (omega arith), λ h. absurd (clash (q .1 (h .1)) refl));
-      five = (λ e. absurd (omega arith), λ no. absurd (no (p .0 refl)));
-      six = (λ e. (p .0 refl, λ h. clash (q .1 h) refl), λ h. refl);
-    }
-ordered-by false u p q =
-    record {
-      none = (λ e. absurd (omega arith), λ h. absurd (clash (p .1 (h .0)) refl));
-      five = (λ e h. clash (p .1 h) refl, λ no. refl);
-      six = (λ e. absurd (omega arith), λ h. absurd (clash (p .1 (h .0)) refl));
-    }
+none-by : {P : Type 0} (t : Bool) → (t ≡ true) ↔ P → (_≡_ {A = ℕ} (cond t 0 6) 0) ↔ P
+none-by true e = (λ h. e .0 refl, λ p. refl)
+none-by false e = (λ h. absurd (omega arith), λ p. cc (e .1 p))
 
 module _ (k : ℕ) (s : Segment) (row : ℤ) where
-  ordered : Ordered (SegmentNear k s) (Within row k) (spanRefusal k s row)
-  unfolding spanRefusal
-  ordered = ordered-by (isSegmentNear k s) (isWithin k row) (segment-near-iff k s) (within-exactly k row)
-
-  pub segment-none : (spanRefusal k s row ≡ 0) ↔ (SegmentNear k s × Within row k)
-  segment-none = ordered .none
-
   pub segment-five : (spanRefusal k s row ≡ 5) ↔ (SegmentNear k s → ⊥)
-  segment-five = ordered .five
+  unfolding spanRefusal
+  segment-five = good-first (isSegmentNear k s) (segment-near-iff k s) (never (isWithin k row) (λ e. omega arith) (λ e. omega arith))
 
   pub segment-six : (spanRefusal k s row ≡ 6) ↔ (SegmentNear k s × (Within row k → ⊥))
-  segment-six = ordered .six
+  unfolding spanRefusal
+  segment-six = good-later (isSegmentNear k s) (segment-near-iff k s) (λ e. omega arith) (good-first (isWithin k row) (within-iff k row) (λ e. omega arith))
+
+  pub segment-none : (spanRefusal k s row ≡ 0) ↔ (SegmentNear k s × Within row k)
+  unfolding spanRefusal
+  segment-none = good-later (isSegmentNear k s) (segment-near-iff k s) (λ e. omega arith) (none-by (isWithin k row) (within-iff k row))
