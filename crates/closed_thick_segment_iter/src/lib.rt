@@ -3,9 +3,9 @@
 ghost use mathlib.Core.Path.{_≡_};
 ghost use Rattle.route_joins.specs.Steps.{stepValues};
 ghost use Rattle.closed_thick_segment_iter.specs.Walks.{started, stepOf, walkAfter};
-use coordinates::point_count;
 use coordinates::refusal;
 use route_joins::Step;
+use route_joins::inner::closed_count;
 use route_joins::inner::closed_segment;
 use shapes::Offset;
 use shapes::refusals::CORNER;
@@ -73,14 +73,15 @@ pub fn step(coordinates: &[i64], walk: Walk) -> Stepped
             walk,
         };
     }
-    if place < point_count(coordinates) {
+    if place < closed_count(coordinates) {
         let segment = closed_segment(coordinates, width, offset, place);
+        let further = place + 1;
+        let next = Walk {
+            place: further,
+            width,
+            offset,
+        };
         if is_segment_near(segment) {
-            let next = Walk {
-                place: place + 1,
-                width,
-                offset,
-            };
             return Stepped {
                 step: Step::Drawn(segment),
                 walk: next,

@@ -54,6 +54,13 @@ module _ (k : ℕ) (closed : Bool) (cs : List ℤ) (w : ℤ) where
       bad-first (isOdd cs) (odd-exactly cs)
       (never (isMiscounted closed (pointCount cs)) (λ e. omega arith) (never (isThin w) (never (areWithin k cs) (λ e. omega arith) (λ e. omega arith)) (λ e. omega arith)))
 
+  -- no other number is given
+  pub refused-most : {m : ℕ} → 4 < m → n ≡ m → ⊥
+  unfolding routeRefusal
+  refused-most h =
+      never (isOdd cs) (λ e. omega (arith, e))
+      (never (isMiscounted closed (pointCount cs)) (λ e. omega (arith, e)) (never (isThin w) (never (areWithin k cs) (λ e. omega (arith, e)) (λ e. omega (arith, e))) (λ e. omega (arith, e))))
+
   pub refused-2 : (n ≡ 2) ↔ ((Odd cs → ⊥) × Miscounted closed (pointCount cs))
   refused-2 =
       after-odd (λ e. omega arith)

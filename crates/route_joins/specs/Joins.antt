@@ -48,6 +48,9 @@ closedSegment cs w o k = record { start = closedJoin cs w o k; end = closedJoin 
 unfoldable pub openCount : List ℤ → ℕ
 openCount cs = pointCount cs - 1
 
+abbrev pub closedCount : List ℤ → ℕ
+closedCount cs = pointCount cs
+
 -- ---- a route, open or closed; a closed one has the offset None
 
 unfoldable pub joinAt : Bool → List ℤ → ℤ → ℕ → Join
@@ -57,7 +60,7 @@ unfoldable pub segmentAt : Bool → List ℤ → ℤ → ℕ → Segment
 segmentAt closed cs w k = cond closed (closedSegment cs w None k) (openSegment cs w k)
 
 unfoldable pub segmentCount : Bool → List ℤ → ℕ
-segmentCount closed cs = cond closed (pointCount cs) (openCount cs)
+segmentCount closed cs = cond closed (closedCount cs) (openCount cs)
 
 -- a point alone has no join
 unfoldable pub joinCount : List ℤ → ℕ

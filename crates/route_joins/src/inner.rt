@@ -6,7 +6,7 @@ ghost use Rattle.line_join.specs.Miter.{Thin};
 ghost use Rattle.coordinates.specs.Points.{pointCount};
 ghost use Rattle.coordinates.specs.Refusal.{AllWithin};
 ghost use Rattle.route_joins.specs.Joins.{openJoin, closedJoin, bendAt, placeAfter, placeBefore};
-ghost use Rattle.route_joins.specs.Joins.{openSegment, closedSegment, openCount, joinAt, areJoinsNear};
+ghost use Rattle.route_joins.specs.Joins.{openSegment, closedSegment, openCount, closedCount, joinAt, areJoinsNear};
 use coordinates::inner::point_at;
 use coordinates::point_count;
 use line_join::Join;
@@ -143,6 +143,13 @@ pub fn open_count(coordinates: &[i64]) -> usize
         return 0;
     }
     count - 1
+}
+
+/// How many segments a closed route has: one from each point.
+pub fn closed_count(coordinates: &[i64]) -> usize
+    ensures { λ r. ⌜ r ≡ closedCount (now (coordinates .entry)) ⌝ }
+{
+    point_count(coordinates)
 }
 
 /// The join at the point at place `i` of a route of two points or more; of a closed one with the offset None.

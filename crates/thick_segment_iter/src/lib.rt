@@ -63,11 +63,12 @@ pub fn step(coordinates: &[i64], walk: Walk) -> Stepped
     }
     if place < open_count(coordinates) {
         let segment = open_segment(coordinates, width, place);
+        let further = place + 1;
+        let next = Walk {
+            place: further,
+            width,
+        };
         if is_segment_near(segment) {
-            let next = Walk {
-                place: place + 1,
-                width,
-            };
             return Stepped {
                 step: Step::Drawn(segment),
                 walk: next,

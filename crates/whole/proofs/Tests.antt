@@ -34,6 +34,10 @@ pub true-passed : (t : Bool) → T t → t ≡ true
 true-passed true p = refl
 true-passed false p = absurd p
 
+pub untrue : (t : Bool) → (t ≡ true → ⊥) → t ≡ false
+untrue true n = absurd (n refl)
+untrue false n = refl
+
 pub lt-iff : (x y : ℤ) → (ltZ x y ≡ true) ↔ (x <ℤ y)
 lt-iff x y = (λ e. record { lt = passed (ltZ x y) e }, λ h. true-passed (ltZ x y) (h .lt))
 

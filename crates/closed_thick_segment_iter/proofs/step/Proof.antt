@@ -11,10 +11,9 @@ use mir.Facts.{toZ-ofZ}
 use Rattle.shapes.specs.declared.Offset.{Offset}
 use Rattle.shapes.specs.Limits.{pointLimit}
 use Rattle.line_join.proofs.Room.{thin-back}
-use Rattle.coordinates.specs.Points.{pointCount}
 use Rattle.coordinates.specs.Refusal.{routeRefusal, Accepted}
 use Rattle.coordinates.proofs.Laws.{accepted-exactly}
-use Rattle.route_joins.specs.Joins.{closedSegment}
+use Rattle.route_joins.specs.Joins.{closedSegment, closedCount}
 use Rattle.route_joins.proofs.Walks.{told-refused, told-end, told-drawn, told-corner}
 use Rattle.closed_thick_segment_iter.specs.declared.Walk.{Walk}
 use Rattle.closed_thick_segment_iter.specs.Walks.{walkRefusal, stepOf, walkAfter}
@@ -60,23 +59,23 @@ returns : tie.Need-returns
 unfolding stepOf walkAfter
 returns c =
     let s = c .before .before .before in
-    let t = told-refused (pointCount (list s)) (closedSegment (list s) (s .args .walk .width) (s .args .walk .offset)) (s .args .walk .place) (told (c .before)) (c .if1 .taken) in
+    let t = told-refused (closedCount (list s)) (closedSegment (list s) (s .args .walk .width) (s .args .walk .offset)) (s .args .walk .place) (told (c .before)) (c .if1 .taken) in
     (t .0, at (t .1))
 
-point-count-requires : tie.Need-point-count-requires
-point-count-requires c κs = search needs
+closed-count-requires : tie.Need-closed-count-requires
+closed-count-requires c κs = search needs
 
 closed-segment-requires : tie.Need-closed-segment-requires
 closed-segment-requires c κs =
     let r = c .before .before .before in
     let a = accepted r (c .before .before .if1 .left) in
-    (a .near, (thin-back (a .thin), counted (c .before .point-count .ensures) (c .if2 .taken) (a .several refl)))
+    (a .near, (thin-back (a .thin), counted (c .before .closed-count .ensures) (c .if2 .taken) (a .several refl)))
 
 is-segment-near-requires : tie.Need-is-segment-near-requires
 is-segment-near-requires c κs = search needs
 
-add-t13 : tie.Need-add-t13
-add-t13 c = search needs
+add-further : tie.Need-add-further
+add-further c = search needs
 
 returns-2 : tie.Need-returns-2
 unfolding stepOf walkAfter
@@ -85,8 +84,8 @@ returns-2 c =
     let r = o .before .before .before in
     let s = r .before .before in
     let t =
-    told-drawn (pointCount (list s)) (closedSegment (list s) (s .args .walk .width) (s .args .walk .offset)) (s .args .walk .place) (told r) (o .before .before .if1 .left)
-    (o .before .point-count .ensures) (o .if2 .taken) (drawn (c .before .before)) (sym (c .before .is-segment-near .ensures) ∙ c .if3 .taken) in
+    told-drawn (closedCount (list s)) (closedSegment (list s) (s .args .walk .width) (s .args .walk .offset)) (s .args .walk .place) (told r) (o .before .before .if1 .left)
+    (o .before .closed-count .ensures) (o .if2 .taken) (drawn (c .before .before)) (sym (c .before .is-segment-near .ensures) ∙ c .if3 .taken) in
     (t .0, ap (λ w. record { place = s .args .walk .place + 1; width = w; offset = s .args .walk .offset }) (held r) ∙ at (t .1))
 
 returns-3 : tie.Need-returns-3
@@ -96,8 +95,8 @@ returns-3 c =
     let r = o .before .before .before in
     let s = r .before .before in
     let t =
-    told-corner (pointCount (list s)) (closedSegment (list s) (s .args .walk .width) (s .args .walk .offset)) (s .args .walk .place) (told r) (o .before .before .if1 .left)
-    (o .before .point-count .ensures) (o .if2 .taken) (drawn (c .before .before)) (sym (c .before .is-segment-near .ensures) ∙ c .if3 .left) in
+    told-corner (closedCount (list s)) (closedSegment (list s) (s .args .walk .width) (s .args .walk .offset)) (s .args .walk .place) (told r) (o .before .before .if1 .left)
+    (o .before .closed-count .ensures) (o .if2 .taken) (drawn (c .before .before)) (sym (c .before .is-segment-near .ensures) ∙ c .if3 .left) in
     (t .0, at (t .1))
 
 returns-4 : tie.Need-returns-4
@@ -105,7 +104,7 @@ unfolding stepOf walkAfter
 returns-4 c =
     let r = c .before .before .before in
     let s = r .before .before in
-    let t = told-end (pointCount (list s)) (closedSegment (list s) (s .args .walk .width) (s .args .walk .offset)) (s .args .walk .place) (told r) (c .before .before .if1 .left) (c .before .point-count .ensures) (c .if2 .left) in
+    let t = told-end (closedCount (list s)) (closedSegment (list s) (s .args .walk .width) (s .args .walk .offset)) (s .args .walk .place) (told r) (c .before .before .if1 .left) (c .before .closed-count .ensures) (c .if2 .left) in
     (t .0, at (t .1))
 
 pub step-spec : {M : Type 1} → statement M
@@ -114,10 +113,10 @@ step-spec =
     (tie.spec
     refusal-requires
     returns
-    point-count-requires
+    closed-count-requires
     closed-segment-requires
+    add-further
     is-segment-near-requires
-    add-t13
     returns-2
     returns-3
     returns-4)

@@ -72,8 +72,8 @@ open-segment-requires c κs =
 is-segment-near-requires : tie.Need-is-segment-near-requires
 is-segment-near-requires c κs = search needs
 
-add-t12 : tie.Need-add-t12
-add-t12 c = search needs
+add-further : tie.Need-add-further
+add-further c = search needs
 
 returns-2 : tie.Need-returns-2
 unfolding stepOf walkAfter
@@ -113,8 +113,8 @@ step-spec =
     returns
     open-count-requires
     open-segment-requires
+    add-further
     is-segment-near-requires
-    add-t12
     returns-2
     returns-3
     returns-4)
