@@ -22,13 +22,13 @@ pub record StepValues : Type 0 where
   pub found : ℕ
   pub segment : Segment
 
-unfoldable pub noCorners : Corners
+abbrev pub noCorners : Corners
 noCorners = record { left = pointOf (pos 0) (pos 0); right = pointOf (pos 0) (pos 0) }
 
-unfoldable pub noJoin : Join
+abbrev pub noJoin : Join
 noJoin = record { kind = kind.Miter; ending = noCorners; starting = noCorners }
 
-unfoldable pub noSegment : Segment
+abbrev pub noSegment : Segment
 noSegment = record { start = noJoin; end = noJoin }
 
 abbrev pub stepValues : Step → StepValues
