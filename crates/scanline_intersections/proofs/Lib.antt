@@ -1,0 +1,5 @@
+pub mod Merging
+pub mod Polyline
+pub mod Refused
+pub mod Spans
+pub mod Steps

@@ -1,0 +1,5 @@
+pub mod Answers
+pub mod Merging
+pub mod Polyline
+pub mod Segments
+pub mod Words

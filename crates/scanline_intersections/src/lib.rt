@@ -1,0 +1,176 @@
+//! The polyline's walk along one row: its segments, and the spans of the segments on the row, merged while they overlap or are
+//! adjacent. `polyline/scanline_intersections.rs`, with 01's rule W6.
+ghost use mathlib.Core.Path.{_≡_};
+ghost use Rattle.route_joins.specs.Steps.{stepValues};
+ghost use Rattle.scanline_intersections.specs.Answers.{startRefusal, startAnswer, stepOf, walkAfter, nextRefusal, nextAnswer};
+
+pub mod inner; // inner.rt: the next merged span, without the tests
+
+use coordinates::refusal;
+use inner::merge;
+use route_joins::Step;
+use route_joins::inner::are_joins_near;
+use route_joins::inner::open_count;
+use route_joins::inner::open_segment;
+use scanline::try_take;
+use shapes::Span;
+use shapes::refusals::CORNER;
+use shapes::refusals::ROW;
+use thick_segment::inner::is_segment_near;
+use whole::inner::within;
+
+/// A walk along the segments of an open route on one row: the place of the next segment, the stroke's width, and the span that is
+/// being gathered, on the row.
+pub struct Intersections {
+    pub place: usize,
+    pub width: i64,
+    pub span: Span,
+}
+
+/// A walk at its first segment, or the refusal with zeros.
+pub struct Started {
+    pub refusal: u64,
+    pub walk: Intersections,
+}
+
+/// What a step answers, and the walk after it.
+pub struct Stepped {
+    pub step: Step,
+    pub walk: Intersections,
+}
+
+/// Whether there is one more merged span, that span (else 0, 0 to 0), and the walk after it; or the refusal with false, zeros, and
+/// the walk handed in as it was.
+pub struct Merged {
+    pub refusal: u64,
+    pub found: bool,
+    pub span: Span,
+    pub walk: Intersections,
+}
+
+/// A walk along the segments of an open route on a row. The list and the width are refused with 1 to 4; then a row outside 4,095
+/// with 6.
+pub fn start(coordinates: &[i64], width: i64, row: i64) -> Started
+    ensures { λ r. ⌜ r ≡ startAnswer (now (coordinates .entry)) width row ⌝ }
+{
+    let number = start_refusal(coordinates, width, row);
+    if number == 0 {
+        return Started {
+            refusal: 0,
+            walk: Intersections {
+                place: 0,
+                width,
+                span: Span {
+                    row,
+                    start: 0,
+                    end: 0,
+                },
+            },
+        };
+    }
+    Started {
+        refusal: number,
+        walk: Intersections {
+            place: 0,
+            width: 0,
+            span: Span {
+                row: 0,
+                start: 0,
+                end: 0,
+            },
+        },
+    }
+}
+
+/// The segment at the walk's place, and the walk one place further; or the end, past the last segment. The list and the walk's
+/// width are refused with 1 to 4; then a segment of which a join has a corner beyond 4,095 with 5.
+pub fn next_segment(coordinates: &[i64], walk: Intersections) -> Stepped
+    ensures answers { λ r. ⌜ stepValues (r .step) ≡ stepOf (now (coordinates .entry)) walk ⌝ }
+    ensures moves { λ r. ⌜ r .walk ≡ walkAfter (now (coordinates .entry)) walk ⌝ }
+{
+    let place = walk.place;
+    let width = walk.width;
+    let span = walk.span;
+    let number = refusal(coordinates, width, false);
+    if number != 0 {
+        return Stepped {
+            step: Step::Refused(number),
+            walk,
+        };
+    }
+    if place < open_count(coordinates) {
+        let segment = open_segment(coordinates, width, place);
+        if is_segment_near(segment) {
+            return Stepped {
+                step: Step::Drawn(segment),
+                walk: Intersections {
+                    place: place + 1,
+                    width,
+                    span,
+                },
+            };
+        }
+        return Stepped {
+            step: Step::Refused(CORNER),
+            walk,
+        };
+    }
+    Stepped {
+        step: Step::End,
+        walk,
+    }
+}
+
+/// The next merged span: the spans of the segments left are gathered while each overlaps or is adjacent to what is gathered so far;
+/// no span is handed out that is empty. The list and the walk's width are refused with 1 to 4; then a route of which some join has
+/// a corner beyond 4,095 with 5; then a row of the walk's span outside 4,095 with 6; then a column of that span outside with 7.
+pub fn next(coordinates: &[i64], walk: Intersections) -> Merged
+    ensures { λ r. ⌜ r ≡ nextAnswer (now (coordinates .entry)) walk ⌝ }
+{
+    let refusal = next_refusal(coordinates, walk);
+    if refusal == 0 {
+        return merge(coordinates, walk);
+    }
+    Merged {
+        refusal,
+        found: false,
+        span: Span {
+            row: 0,
+            start: 0,
+            end: 0,
+        },
+        walk,
+    }
+}
+
+/// The refusal of a start, 0 where there is none: 1 to 4, then 6.
+fn start_refusal(coordinates: &[i64], width: i64, row: i64) -> u64
+    ensures { λ r. ⌜ r ≡ startRefusal (now (coordinates .entry)) width row ⌝ }
+{
+    let number = refusal(coordinates, width, false);
+    if number != 0 {
+        return number;
+    }
+    if within(row, shapes::limits::CORNER) {
+        0
+    } else {
+        ROW
+    }
+}
+
+/// The refusal of a walk whose next merged span is asked for, 0 where there is none: 1 to 4, then 5, then 6 and 7, with which
+/// `try_take` refuses the walk's span.
+fn next_refusal(coordinates: &[i64], walk: Intersections) -> u64
+    ensures { λ r. ⌜ r ≡ nextRefusal (now (coordinates .entry)) walk ⌝ }
+{
+    let width = walk.width;
+    let number = refusal(coordinates, width, false);
+    if number != 0 {
+        return number;
+    }
+    if are_joins_near(coordinates, width, false) {
+        let span = walk.span;
+        return try_take(span).refusal;
+    }
+    CORNER
+}
