@@ -1,2 +1,4 @@
 pub mod Places
 pub mod Offers
+pub mod Chains
+pub mod Ranges

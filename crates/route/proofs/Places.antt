@@ -1,25 +1,27 @@
 -- Lists of joins and of spans by their place, in the form of a loop that goes from the front. Assumes nothing.
-use mathlib.Core.Path.{_≡_, refl, ap}
+use mathlib.Core.Path.{_≡_, refl, ap, _∙_}
 use mathlib.Core.Bool.{Bool, true, false, _&&_, cond}
 use mathlib.Core.List.{List, _∷_}
 use Prim.Native.Nat.{ℕ, zero, suc, _+_, _-_, _≤_, _<_}
-use native.Mathlib.Nat.{zero-add}
+use native.Mathlib.Nat.{add-zero, zero-add}
 use native.Mathlib.Numerals.{add-one}
 use native.Mathlib.Omega.{arith}
 use borrow.Author.Tests.{leb-true}
 use lib.Dec.{leb}
 use lib.IntN.{ℤ}
-use lib.ListN.{length, drop}
+use lib.ListN.{length, getD, drop, replicate, List·getD-append}
+use lib.Seq.{getD-drop}
 use Rattle.shapes.specs.Limits.{cornerLimit}
 use Rattle.line_join.specs.declared.Join.{Join}
 use Rattle.line_join.specs.Caps.{isJoinNear}
 use Rattle.coordinates.specs.Points.{pointCount}
 use Rattle.route_joins.specs.Joins.{joinAt, joinCount, nearFrom, areJoinsNear}
 use Rattle.route_joins.specs.Steps.{noJoin}
+use Rattle.thick_segment.specs.declared.Segment.{Segment}
 use Rattle.thick_segment.specs.Segments.{SegmentNear}
 use Rattle.board.proofs.Arrays.{partly, fill-done}
 use Rattle.route_joins.proofs.Laws.{after-inside}
-use Rattle.route_joins.proofs.Near.{near-end}
+use Rattle.route_joins.proofs.Near.{near-end, joins-exactly}
 use Rattle.route.specs.declared.Joins.{Joins}
 use Rattle.route.specs.Joined.{joinsFrom, keptIn, joinsOf, Kept, segmentsIn, nextIn, segmentIn}
 
@@ -99,3 +101,29 @@ ends-inside false h = (omega arith, omega arith)
 pub segment-near : {route : Joins} {k : ℕ} → Kept route → k < segmentsIn (route .closed) (route .count) → SegmentNear cornerLimit (segmentIn route k)
 unfolding segmentIn
 segment-near {route} {k} kept h = let i = ends-inside (route .closed) h in record { start-near = kept .near k (i .0); end-near = kept .near (nextIn (route .closed) (route .count) k) (i .1) }
+
+pub ends-in-array : {route : Joins} {k : ℕ} → Kept route → k < segmentsIn (route .closed) (route .count) → (k < 256) × (nextIn (route .closed) (route .count) k < 256)
+ends-in-array {route} kept h = let i = ends-inside (route .closed) h in let few = kept .few in (omega (arith, i .0, few), omega (arith, i .1, few))
+
+-- the segment between two joins of the array
+pub between-joins : (route : Joins) (k : ℕ) {next : ℕ} → next ≡ nextIn (route .closed) (route .count) k
+    → _≡_ {A = Segment} (record { start = getD (route .joins) k noJoin; end = getD (route .joins) next noJoin }) (segmentIn route k)
+unfolding segmentIn
+between-joins route k e = rw e
+
+-- the join at place i of the array
+kept-at : (join : ℕ → Join) {n i : ℕ} → i < n → getD (keptIn (joinsFrom join 0 n)) i noJoin ≡ join i
+unfolding keptIn
+kept-at join {n} {i} h =
+    let long = joins-long join 0 n in
+    let here : getD (drop i (joinsFrom join 0 n)) 0 noJoin ≡ join i = rw (joins-drop join n i h) in
+    List·getD-append (joinsFrom join 0 n) (replicate (256 - length (joinsFrom join 0 n)) noJoin) noJoin i (omega arith) ∙ rw add-zero at (rw (getD-drop i (joinsFrom join 0 n) 0 noJoin) at here)
+
+-- the joins of a route that nothing refuses may be drawn
+pub kept-joins : (closed : Bool) (cs : List ℤ) (w : ℤ) → pointCount cs ≤ 256 → areJoinsNear cornerLimit closed cs w ≡ true → Kept (joinsOf closed cs w)
+unfolding joinsOf
+kept-joins closed cs w few near =
+    record {
+      few = omega (arith, count-most cs, few);
+      near = λ i h. rw (kept-at (joinAt closed cs w) h) (joins-exactly cornerLimit closed cs w .0 near i h);
+    }

@@ -10,12 +10,17 @@ ghost use Rattle.coordinates.specs.Refusal.{AllWithin};
 ghost use Rattle.route_joins.specs.Joins.{joinCount};
 ghost use Rattle.route_joins.specs.Steps.{noJoin};
 ghost use Rattle.route.specs.Joined.{Kept, joinsOf, segmentsIn, nextIn};
-ghost use Rattle.route.specs.Rows.{boardOn};
+ghost use Rattle.route.specs.Rows.{boardOn, withBox, rowsIn, RowsNear, rowCount, rowAt, rowsRefusal};
+ghost use Rattle.route.specs.Answers.{notListed, noJoins, preparedOf};
 use crate::Joins;
+use crate::Prepared;
+use crate::RowRange;
 use board::Answer;
+use board::Listed;
 use board::inner::empty_board;
 use board::inner::offer_sound;
 use coordinates::point_count;
+use coordinates::refusal;
 use line_join::Corners;
 use line_join::Join;
 use line_join::Kind;
@@ -23,8 +28,13 @@ use line_join::inner::is_join_near;
 use route_joins::inner::join_at;
 use route_joins::inner::place_after;
 use shapes::Point;
+use shapes::refusals::CORNER;
+use thick_segment::Rectangle;
 use thick_segment::Segment;
+use thick_segment::inner::edges_bounding_box;
 use thick_segment::inner::span;
+use whole::inner::greater;
+use whole::inner::lesser;
 
 /// What stands in an array of joins beyond the joins.
 fn no_join() -> Join
@@ -135,4 +145,137 @@ pub fn row_board(route: Joins, row: i64) -> Answer
         k += 1;
     }
     Answer { refusal: 0, board }
+}
+
+/// An answer that lists nothing.
+pub fn refused(number: u64) -> Listed
+    ensures { λ r. ⌜ r ≡ notListed number ⌝ }
+{
+    Listed {
+        refusal: number,
+        count: 0,
+        total: 0,
+    }
+}
+
+/// The joins of a route, or its refusal from 1 to 5, for the entries: every one of them begins so.
+pub fn prepare(coordinates: &[i64], width: i64, closed: bool) -> Prepared
+    ensures { λ r. ⌜ r ≡ preparedOf closed (now (coordinates .entry)) width ⌝ }
+{
+    let number = refusal(coordinates, width, closed);
+    if 0 < number {
+        return Prepared {
+            refusal: number,
+            joins: no_joins(),
+        };
+    }
+    let joins = joins_of(coordinates, width, closed);
+    if joins.near {
+        return Prepared { refusal: 0, joins };
+    }
+    Prepared {
+        refusal: CORNER,
+        joins,
+    }
+}
+
+/// The joins of no route.
+fn no_joins() -> Joins
+    ensures { λ r. ⌜ r ≡ noJoins ⌝ }
+{
+    let none = no_join();
+    Joins {
+        closed: false,
+        count: 0,
+        near: true,
+        joins: [none; 256],
+    }
+}
+
+/// The rows with those of a box as well.
+fn with_box(rows: RowRange, rectangle: Rectangle) -> RowRange
+    ensures { λ r. ⌜ r ≡ withBox rows rectangle ⌝ }
+{
+    let first = rectangle.first.y;
+    let last = rectangle.last.y;
+    if rows.some {
+        let least = rows.first;
+        let most = rows.last;
+        return RowRange {
+            refusal: 0,
+            some: true,
+            first: lesser(least, first),
+            last: greater(most, last),
+        };
+    }
+    RowRange {
+        refusal: 0,
+        some: true,
+        first,
+        last,
+    }
+}
+
+/// The rows of a route: the least and the greatest of its segments' bounding boxes.
+pub fn rows_of(route: Joins) -> RowRange
+    requires { ⌜ Kept route ⌝ }
+    ensures { λ r. ⌜ r ≡ rowsIn route ⌝ }
+{
+    let count = route.count;
+    let closed = route.closed;
+    let n = segments_in(count, closed);
+    let mut rows = RowRange {
+        refusal: 0,
+        some: false,
+        first: 0,
+        last: 0,
+    };
+    let mut k: usize = 0;
+    while k < n {
+        let next = next_in(count, closed, k);
+        let start = route.joins[k];
+        let end = route.joins[next];
+        rows = with_box(rows, edges_bounding_box(Segment { start, end }));
+        k += 1;
+    }
+    rows
+}
+
+/// How many rows there are.
+pub fn row_count(rows: RowRange) -> usize
+    requires { ⌜ RowsNear rows ⌝ }
+    ensures { λ r. ⌜ r ≡ rowCount rows ⌝ }
+{
+    if rows.some {
+        let height = rows.last - rows.first + 1;
+        return height as usize;
+    }
+    0
+}
+
+/// The row at place `i`, from the first on.
+pub fn row_at(rows: RowRange, i: usize) -> i64
+    requires { ⌜ RowsNear rows ⌝ }
+    requires { ⌜ i < rowCount rows ⌝ }
+    ensures { λ r. ⌜ r ≡ rowAt rows i ⌝ }
+{
+    rows.first + i as i64
+}
+
+/// The refusal of the first row that has no room for its runs, or 0.
+pub fn rows_refusal(route: Joins, rows: RowRange) -> u64
+    requires { ⌜ Kept route ⌝ }
+    requires { ⌜ RowsNear rows ⌝ }
+    ensures { λ r. ⌜ r ≡ rowsRefusal route rows ⌝ }
+{
+    let n = row_count(rows);
+    let mut i: usize = 0;
+    while i < n {
+        let answer = row_board(route, row_at(rows, i));
+        if 0 < answer.refusal {
+            return answer.refusal;
+        }
+        i += 1;
+    }
+    0
 }

@@ -1,7 +1,20 @@
 //! A route's rows: the columns that its segments light.
+ghost use mathlib.Core.Path.{_≡_};
+ghost use lib.ListN.{length};
+ghost use Rattle.route.specs.Answers.{rowsAnswer, wholeRefusal, rowAnswer, rowTo};
+
 pub mod inner; // inner.rt: the joins of a route, worked out once, and what is drawn of them
 
+use board::Listed;
+use inner::prepare;
+use inner::refused;
+use inner::row_board;
+use inner::rows_of;
+use inner::rows_refusal;
 use line_join::Join;
+use shapes::limits::CORNER;
+use shapes::refusals::ROW;
+use whole::inner::within;
 
 /// The joins of a route, worked out once for all its rows: the first `count` of `joins`, one at each point; and whether every one
 /// of them has all its corners within 4,095.
@@ -10,4 +23,69 @@ pub struct Joins {
     pub count: usize,
     pub near: bool,
     pub joins: [Join; 256],
+}
+
+/// The joins of a route, or a refusal: `refusal` is 0, or 01's number from 1 to 5.
+pub struct Prepared {
+    pub refusal: u64,
+    pub joins: Joins,
+}
+
+/// The rows of a route, `first` to `last`; none, and 0 to 0, where it has no segments. In a refusal all is 0.
+pub struct RowRange {
+    pub refusal: u64,
+    pub some: bool,
+    pub first: i64,
+    pub last: i64,
+}
+
+/// The rows of a route: the least and the greatest of its segments' bounding boxes. Refused with 1 for an odd number of
+/// coordinates, 2 for more than 256 points or one of a closed route, 3 for a width outside 0 to 64, 4 for a coordinate outside
+/// 511, 5 for a join with a corner beyond 4,095.
+pub fn rows(coordinates: &[i64], width: i64, closed: bool) -> RowRange
+    ensures { λ r. ⌜ r ≡ rowsAnswer closed (now (coordinates .entry)) width ⌝ }
+{
+    let route = prepare(coordinates, width, closed);
+    if 0 < route.refusal {
+        return RowRange {
+            refusal: route.refusal,
+            some: false,
+            first: 0,
+            last: 0,
+        };
+    }
+    rows_of(route.joins)
+}
+
+/// What a route is refused with as a whole, or 0: 1 to 5 as `rows`, and then 8 if one of its rows needs more than 32 runs after some
+/// segment.
+pub fn refusal(coordinates: &[i64], width: i64, closed: bool) -> u64
+    ensures { λ r. ⌜ r ≡ wholeRefusal closed (now (coordinates .entry)) width ⌝ }
+{
+    let route = prepare(coordinates, width, closed);
+    if 0 < route.refusal {
+        return route.refusal;
+    }
+    rows_refusal(route.joins, rows_of(route.joins))
+}
+
+/// Writes the runs of a route's row to the front of `out`, start and end of each in turn, and answers their count and the number
+/// of their columns; the rest of `out` keeps its content. Refused with 1 to 5 as `rows`, then with 6 for a row outside 4,095, then
+/// with 8 if the row needs more than 32 runs after some segment, or `out` has fewer than two numbers for each run. Refused, `out`
+/// is as it was.
+pub fn row(coordinates: &[i64], width: i64, closed: bool, row: i64, out: &mut [i64]) -> Listed
+    ensures { λ r. ⌜ (r ≡ rowAnswer closed (now (coordinates .entry)) width row (length (now (out .entry)))) × (now (out .exit) ≡ rowTo closed (now (coordinates .entry)) width row (now (out .entry))) ⌝ }
+{
+    let route = prepare(coordinates, width, closed);
+    if 0 < route.refusal {
+        return refused(route.refusal);
+    }
+    if within(row, CORNER) {
+        let answer = row_board(route.joins, row);
+        if 0 < answer.refusal {
+            return refused(answer.refusal);
+        }
+        return board::list(answer.board, &mut *out);
+    }
+    refused(ROW)
 }

@@ -18,7 +18,7 @@ use Rattle.route_joins.specs.Steps.{noJoin}
 use Rattle.route.specs.declared.Joins.{Joins}
 use Rattle.route.specs.Joined.{segmentsIn, nextIn, segmentIn}
 use Rattle.route.specs.Rows.{spansFrom, offerAll, boardOn}
-use Rattle.route.proofs.Places.{ends-inside, segment-near}
+use Rattle.route.proofs.Places.{ends-inside, ends-in-array, segment-near, between-joins}
 use Rattle.route.proofs.Offers.{offerable, spans-none, spans-more, offer-none, offer-on, offer-stop, empty-sound}
 use borrow.Author.Needs.{needs}
 use Rattle.route.proofs.inner.row_board.Statement.{statement}
@@ -59,13 +59,12 @@ module _ (c : tie.In-loop Inv-loop μ-loop) where
   near = segment-near (began .before .pre .0) inner
 
   inside : (place < 256) × (nextIn (route .closed) (route .count) place < 256)
-  inside = let i = ends-inside (route .closed) inner in let few = began .before .pre .0 .few in (omega (arith, i .0, few), omega (arith, i .1, few))
+  inside = ends-in-array (began .before .pre .0) inner
 
 -- the segment that is drawn in it, and its span
 segment : (c : tie.After-end Inv-loop μ-loop) → let l = c .before .before .before in
     _≡_ {A = Segment} (record { start = getD (route l .joins) (place l) noJoin; end = getD (route l .joins) (c .before .before .next-in .result) noJoin }) (segmentIn (route l) (place l))
-unfolding segmentIn
-segment c = rw (c .before .before .next-in .ensures)
+segment c = let l = c .before .before .before in between-joins (route l) (place l) (c .before .before .next-in .ensures)
 
 lit : (c : tie.After-span Inv-loop μ-loop) → let l = c .before .before .before .before in c .span .result ≡ spanOn (segmentIn (route l) (place l)) (y (began l))
 lit c = c .span .ensures ∙ ap (λ s. spanOn s (y (began (c .before .before .before .before)))) (segment (c .before))

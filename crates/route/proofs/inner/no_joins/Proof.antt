@@ -1,0 +1,19 @@
+-- `route::inner::no_joins` meets its contract. Assumes nothing.
+use mathlib.Core.Path.{ap}
+use mathlib.Core.Bool.{true, false}
+use lib.ListN.{replicate}
+use Rattle.route.specs.declared.Joins.{Joins}
+use Rattle.route.specs.Answers.{noJoins}
+use borrow.Author.Needs.{needs}
+use Rattle.route.proofs.inner.no_joins.Statement.{statement}
+use Rattle.route.proofs.inner.no_joins.Tie as tie
+
+no-join-requires : tie.Need-no-join-requires
+no-join-requires c κs = search needs
+
+returns : tie.Need-returns
+unfolding noJoins
+returns c = ap {B = Joins} (λ j. record { closed = false; count = 0; near = true; joins = replicate 256 j }) (c .no-join .ensures)
+
+pub no-joins-spec : {M : Type 1} → statement M
+no-joins-spec = tie.close (tie.spec no-join-requires returns)
