@@ -11,12 +11,13 @@ def build(source, variant="checked"):
     subprocess.run([ROOT / "oracle" / "build", source, variant], check=True)
 
 
-def ask(questions, variant="checked", mode=(), seconds=None):
+def ask(questions, variant="checked", mode=(), seconds=None, errors=None):
     """The driver's answers, one for each question; `mode` may be `("places",)`."""
     run = subprocess.run(
         [ROOT / "target" / "oracle" / variant / "driver", *mode],
         input="".join(question + "\n" for question in questions),
         stdout=subprocess.PIPE,
+        stderr=errors,
         text=True,
         check=True,
         timeout=seconds,

@@ -1,7 +1,7 @@
 """The questions answered from document 01, over exact numbers, with its limits and refusals.
 
-The rules stand in `plane.py`, `strokes.py`, `joins.py` and `segments.py`; here is what each kind of
-question asks for. Import `answer`, or run it as a filter.
+The rules stand in `plane.py`, `strokes.py`, `joins.py`, `segments.py` and `walks.py`; here is what each
+kind of question asks for. Import `answer`, or run it as a filter.
 """
 
 import sys
@@ -9,6 +9,7 @@ import sys
 import joins
 import segments
 import strokes
+import walks
 from plane import delta_of, distance_of, nearly_colinear, rounded_crossing
 
 CROSSING_LIMIT = 1023
@@ -225,6 +226,49 @@ def extended_span(row, start, end, other_row, other_start, other_end):
     return words(truth(was_extended), *after)
 
 
+# Walks and merged spans.
+
+
+def route(width, count, coordinates, closed=False):
+    """The points of a route; the start of a walk refuses with 1 to 4."""
+    assert len(coordinates) == count
+    refuse(1, count % 2 == 1)
+    refuse(2, count > 2 * walks.MOST_POINTS or (closed and count == 2))
+    refuse_stroke(width, coordinates)
+    return paired(coordinates)
+
+
+def walk_words(found):
+    """Of each segment its two joins, then the end."""
+    parts = [" / ".join(map(join_words, segment)) for segment in found]
+    return " | ".join([*parts, "end"])
+
+
+def open_walk(width, _offset, _row, count, *coordinates):
+    return walk_words(walks.open_segments(route(width, count, coordinates), width))
+
+
+def closed_walk(width, offset, _row, count, *coordinates):
+    points = route(width, count, coordinates, closed=True)
+    return walk_words(walks.closed_segments(points, width, strokes.OFFSETS[offset]))
+
+
+def spans_of_row(width, _offset, row, count, *coordinates):
+    """The spans of an open route's segments on a row."""
+    found = walks.open_segments(route(width, count, coordinates), width)
+    refuse_corners(*(join for segment in found for join in segment))
+    refuse(6, beyond(CORNER_LIMIT, [row]))
+    return [walks.span_on(segment, row) for segment in found]
+
+
+def merged_words(spans):
+    return words(*flat(spans), "end")
+
+
+def merged_spans(*numbers):
+    return merged_words(walks.merged(spans_of_row(*numbers)))
+
+
 KINDS = {
     "e": equation,
     "d": distance,
@@ -242,6 +286,10 @@ KINDS = {
     "r": span_of_segment,
     "m": met_span,
     "u": extended_span,
+    "O": open_walk,
+    "C": closed_walk,
+    "N": open_walk,
+    "M": merged_spans,
 }
 
 
@@ -257,6 +305,11 @@ def whole_answer(question):
 def printed_answer(question):
     """What the printed Rust is expected to answer: its `try_extend` says no to an empty span."""
     kind, *numbers = question.split()
+    if kind == "M":
+        spans = spans_of_row(*map(int, numbers))
+        printed = walks.merged_as_printed(spans)
+        assert walks.columns_of(printed) == walks.columns_of(walks.merged(spans))
+        return merged_words(printed)
     if kind == "u":
         _, start, end, _, other_start, other_end = map(int, numbers)
         if segments.is_empty((start, end)) or segments.is_empty((other_start, other_end)):

@@ -10,6 +10,7 @@ import exact
 import joins
 from asking import FAR, listed, one_changed, point_within, scaled
 from segments import Segment
+from walks import closed_segments, open_segments
 
 SEED = 40954096
 LIMIT = exact.CORNER_LIMIT
@@ -33,19 +34,6 @@ WORKED = [
     ("u 0 0 0 0 7 3", "true 7 3"),
     ("u 0 2 5 0 7 3", "true 2 5"),
 ]
-
-
-def open_segments(points, width):
-    found = [joins.between(*three, width, "None") for three in zip(points, points[1:], points[2:])]
-    start = joins.start(points[0], points[1], width, "None")
-    end = joins.end(points[-2], points[-1], width, "None")
-    return [Segment(*pair) for pair in zip([start, *found], [*found, end])]
-
-
-def closed_segments(points, width, offset="None"):
-    around = [points[-1], *points, points[0]]
-    found = [joins.between(*three, width, offset) for three in zip(around, points, around[2:])]
-    return [Segment(*pair) for pair in zip(found, found[1:] + found[:1])]
 
 
 def numbers_of(segment):

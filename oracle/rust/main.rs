@@ -12,10 +12,11 @@ mod transform;
 use geometry::Point;
 use primitives::{
     common::{
-        line_join, thick_segment, EdgeCorners, JoinKind, LineJoin, LineSide, LinearEquation,
-        Scanline, StrokeOffset, ThickSegment,
+        line_join, thick_segment, ClosedThickSegmentIter, EdgeCorners, JoinKind, LineJoin,
+        LineSide, LinearEquation, Scanline, StrokeOffset, ThickSegment, ThickSegmentIter,
     },
     line,
+    polyline::{scanline_intersections, ScanlineIntersections},
     Intersection, IntersectionParams, Line,
 };
 use std::{
@@ -115,6 +116,21 @@ fn answer_kind(kind: &str, numbers: &[i32]) -> String {
             let other = Scanline::new(other_row, other_start..other_end);
             let extended = scanline.try_extend(&other);
             format!("{extended} {}", span_words(&scanline))
+        }
+        ("O", &[width, offset, _, _, ref coordinates @ ..]) => {
+            let points = points(coordinates);
+            walk_words(ThickSegmentIter::new(&points, width as u32, stroke_offset(offset)))
+        }
+        ("C", &[width, offset, _, _, ref coordinates @ ..]) => {
+            let points = points(coordinates);
+            walk_words(ClosedThickSegmentIter::new(&points, width as u32, stroke_offset(offset)))
+        }
+        ("N", &[width, _, _, _, ref coordinates @ ..]) => {
+            let points = points(coordinates);
+            walk_words(scanline_intersections::door::segments(&points, width as u32))
+        }
+        ("M", &[width, _, row, _, ref coordinates @ ..]) => {
+            merged_words(ScanlineIntersections::new(&points(coordinates), width as u32, row))
         }
         _ => panic!("no such question"),
     }
@@ -280,4 +296,22 @@ fn parts_of_segment(start: LineJoin, end: LineJoin) -> String {
         size.height,
         counted(perimeter.iter().map(line_words))
     )
+}
+
+fn points(coordinates: &[i32]) -> Vec<Point> {
+    let pairs = coordinates.chunks_exact(2);
+    assert!(pairs.remainder().is_empty());
+    pairs.map(|pair| Point::new(pair[0], pair[1])).collect()
+}
+
+/// Of each segment its two joins, then the end.
+fn walk_words(segments: impl IntoIterator<Item = ThickSegment>) -> String {
+    let joins = |segment| thick_segment::door::joins(&segment).map(|join| join_words(&join));
+    let parts = segments.into_iter().map(|segment| joins(segment).join(" / "));
+    parts.chain(["end".into()]).collect::<Vec<_>>().join(" | ")
+}
+
+fn merged_words(spans: ScanlineIntersections) -> String {
+    let words = spans.map(|span| span_words(&span));
+    words.chain(["end".into()]).collect::<Vec<_>>().join(" ")
 }

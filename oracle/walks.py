@@ -1,0 +1,71 @@
+"""Walks along routes, merged spans and rows, over exact numbers: document 01, module 6 and "The board".
+
+A walk is the list of its segments, each made from the points around its own place.
+"""
+
+import joins
+from segments import NEW, Segment, is_empty, meet, try_extend
+
+MOST_POINTS = 256
+
+
+def open_segments(points, width):
+    """n points have n - 1 segments: a start, the bends, an end; no offset."""
+    if len(points) < 2:
+        return []
+    bends = [joins.between(*three, width, "None") for three in zip(points, points[1:], points[2:])]
+    start = joins.start(points[0], points[1], width, "None")
+    end = joins.end(points[-2], points[-1], width, "None")
+    return [Segment(*pair) for pair in zip([start, *bends], [*bends, end])]
+
+
+def closed_segments(points, width, offset="None"):
+    """n points have n segments; two points have a start in the place of their first bend."""
+    if not points:
+        return []
+    around = [points[-1], *points, points[0]]
+    bends = [joins.between(*three, width, offset) for three in zip(around, points, around[2:])]
+    if len(points) == 2:
+        bends[0] = joins.start(*points, width, offset)
+    return [Segment(*pair) for pair in zip(bends, bends[1:] + bends[:1])]
+
+
+def span_on(segment, row):
+    """The segment's span; lines that do not come to the row are passed over."""
+    span = NEW
+    for line in segment.perimeter():
+        (_, first), (_, last) = line
+        if min(first, last) <= row <= max(first, last):
+            span = meet(span, row, line)
+    return span
+
+
+def merged(spans):
+    """The merged spans by W6: an empty span changes nothing, and one that does not touch the last begins anew."""
+    found = []
+    for span in spans:
+        if is_empty(span):
+            continue
+        joined, hull = try_extend(found[-1], span) if found else (False, None)
+        if joined:
+            found[-1] = hull
+        else:
+            found.append(span)
+    return found
+
+
+def merged_as_printed(spans):
+    """What the printed iterator hands out: an empty span is never extended, nor does it extend another."""
+    found, current = [], NEW
+    for span in spans:
+        joined, hull = try_extend(current, span)
+        if joined and not is_empty(current) and not is_empty(span):
+            current = hull
+        else:
+            found.append(current)
+            current = span
+    return found if is_empty(current) else [*found, current]
+
+
+def columns_of(spans):
+    return {column for start, end in spans for column in range(start, end)}
