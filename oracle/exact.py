@@ -1,12 +1,13 @@
 """The questions answered from document 01, over exact numbers, with its limits and refusals.
 
-The rules stand in `plane.py`, `strokes.py`, `joins.py`, `segments.py` and `walks.py`; here is what each
-kind of question asks for. Import `answer`, or run it as a filter.
+The rules stand in `plane.py`, `strokes.py`, `joins.py`, `segments.py`, `walks.py` and
+`route_files.py`; here is what each kind of question asks for. Import `answer`, or run it as a filter.
 """
 
 import sys
 
 import joins
+import route_files
 import segments
 import strokes
 import walks
@@ -269,6 +270,35 @@ def merged_spans(*numbers):
     return merged_words(walks.merged(spans_of_row(*numbers)))
 
 
+# Route files.
+
+
+def rows_of_file(*data):
+    """What the program `rows` prints, the lines with ` / ` between them."""
+    routes = route_files.routes_of(data)
+    refuse(9, routes is None)
+    lines, total = [words("routes", len(routes))], 0
+    for k, found in enumerate(routes):
+        try:
+            runs = runs_of_route(*found)
+            lines += [words(k, *run) for run in runs]
+            total += sum(end - start for _, start, end in runs)
+        except Refused as refusal:
+            lines.append(words(k, "refused", refusal))
+    return " / ".join([*lines, words("total", total)])
+
+
+def runs_of_route(coordinates, width, closed):
+    """Row, start and end of each run of a route."""
+    points = route(width, len(coordinates), coordinates, closed)
+    walk = walks.closed_segments if closed else walks.open_segments
+    found = walk(points, width)
+    refuse_corners(*(join for segment in found for join in segment))
+    rows = list(walks.runs_by_row(found))
+    refuse(8, any(most > walks.MOST_RUNS for _, most, _ in rows))
+    return [(row, *run) for row, _, runs in rows for run in runs]
+
+
 KINDS = {
     "e": equation,
     "d": distance,
@@ -290,6 +320,7 @@ KINDS = {
     "C": closed_walk,
     "N": open_walk,
     "M": merged_spans,
+    "F": rows_of_file,
 }
 
 

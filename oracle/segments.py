@@ -17,13 +17,16 @@ def is_empty(span):
     return end <= start
 
 
-def columns_on(line, row):
-    """The columns of the line's points on a row, by W2: the points in closed form."""
+def points_of(line):
+    """The line's points by W2, in closed form."""
     walk = walk_of(delta_of(line))
     if walk.a == 0:
-        return [line[0][0]] if line[0][1] == row else []
-    points = (walk.place(line[0], k, walk.minor_moves(k)) for k in range(walk.a + 1))
-    return [x for x, y in points if y == row]
+        return [line[0]]
+    return [walk.place(line[0], k, walk.minor_moves(k)) for k in range(walk.a + 1)]
+
+
+def columns_on(line, row):
+    return [x for x, y in points_of(line) if y == row]
 
 
 def extended(span, columns):

@@ -4,9 +4,11 @@ A walk is the list of its segments, each made from the points around its own pla
 """
 
 import joins
-from segments import NEW, Segment, is_empty, meet, try_extend
+from board import runs_of
+from segments import NEW, Segment, extended, is_empty, meet, points_of, try_extend
 
 MOST_POINTS = 256
+MOST_RUNS = 32
 
 
 def open_segments(points, width):
@@ -69,3 +71,32 @@ def merged_as_printed(spans):
 
 def columns_of(spans):
     return {column for start, end in spans for column in range(start, end)}
+
+
+def spans_by_row(segment):
+    """The segment's span on every row that it comes to."""
+    columns = {}
+    for line in segment.perimeter():
+        for x, y in points_of(line):
+            columns.setdefault(y, []).append(x)
+    return {row: extended(NEW, found) for row, found in columns.items()}
+
+
+def rows_of(segments):
+    """From the least to the greatest row of the segments' boxes."""
+    boxes = [segment.edges_bounding_box() for segment in segments]
+    if not boxes:
+        return range(0)
+    return range(min(top for _, top, _, _ in boxes), max(top + high for _, top, _, high in boxes))
+
+
+def runs_by_row(segments):
+    """Of each row the runs of its lit columns, and the most runs that there are after some segment."""
+    spans = [spans_by_row(segment) for segment in segments]
+    for row in rows_of(segments):
+        lit, most = set(), 0
+        for offered in spans:
+            if row in offered:
+                lit.update(range(*offered[row]))
+                most = max(most, len(runs_of(lit)))
+        yield row, most, runs_of(lit)

@@ -1,12 +1,13 @@
 //! The driver: reads one question a line, prints one answer a line, as the README tells.
 //!
-//! It knows no limits. An answer is `overflow` where an operation left i32, and `not i32` where a
+//! It knows no limits, save those of route files. An answer is `overflow` where an operation left i32, and `not i32` where a
 //! number of the question has no place in i32. Called with the word `places`, it also tells what
 //! overflowed and where: `overflow geometry/mod.rs:44:9: attempt to multiply with overflow`.
 
 mod draw_target;
 mod geometry;
 mod primitives;
+mod route_file;
 mod transform;
 
 use geometry::Point;
@@ -131,6 +132,10 @@ fn answer_kind(kind: &str, numbers: &[i32]) -> String {
         }
         ("M", &[width, _, row, _, ref coordinates @ ..]) => {
             merged_words(ScanlineIntersections::new(&points(coordinates), width as u32, row))
+        }
+        ("F", bytes) => {
+            let file: Vec<u8> = bytes.iter().map(|byte| u8::try_from(*byte).unwrap()).collect();
+            route_file::rows(&file).join(" / ")
         }
         _ => panic!("no such question"),
     }
