@@ -1,7 +1,8 @@
 """The questions answered from document 01, over exact numbers, with its limits and refusals.
 
 The rules stand in `plane.py`, `strokes.py`, `joins.py`, `segments.py`, `walks.py` and
-`route_files.py`; here is what each kind of question asks for. Import `answer`, or run it as a filter.
+`route_files.py`; here is what each kind of question asks for. Import `answer`, or run it as
+a filter.
 """
 
 import sys

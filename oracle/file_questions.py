@@ -63,12 +63,12 @@ def entry_of(k):
 
 
 def of_entries(entries, rest):
-    """A file of entries (offset, count, width, closed) as they are told, and the bytes behind them."""
+    """A file of entries (offset, count, width, closed) as told, and the bytes behind them."""
     return with_length(words16(len(entries), 0, *flat(entries)) + rest)
 
 
 def file_of(*routes, gap=b"", behind=b""):
-    """The points of each route behind those of the one before it, each after a gap that nothing names."""
+    """Route after route has its points behind the entries, each after a gap that none names."""
     place = entry_of(len(routes))
     entries, rest = [], b""
     for points, width, closed in routes:
@@ -102,7 +102,8 @@ def headers():
         entries = [(entry_of(n), 0, 1, 0)] * min(n, 18)
         yield with_length(changed(of_entries(entries, b""), 0, n))
     good = file_of(BEND, RING)
-    for length in (0, 1, 3, 4, len(good) - 1, len(good) + 1, len(good) + 256, 256 * len(good), 65535):
+    size = len(good)
+    for length in (0, 1, 3, 4, size - 1, size + 1, size + 256, 256 * size, 65535):
         yield changed(good, 2, length)
     for size in range(len(EXAMPLE)):
         yield EXAMPLE[:size]
@@ -162,7 +163,7 @@ def widths_past_the_limit():
 
 
 def coordinates_past_the_limit():
-    """Refusal 4, in each place, also of routes without segments and not of points that none names."""
+    """Refusal 4, also of routes without segments, and not of points that no entry names."""
     for place, value in product(range(6), (511, -511, 512, -512)):
         numbers = [1, 2, 30, 4, 5, 40]
         numbers[place] = value
@@ -171,7 +172,8 @@ def coordinates_past_the_limit():
         yield file_of(LINE, Route([(3, 4), (value, 0), (0, 7)], 1, 1), BEND)
         yield file_of(Route([(0, value)], 1, 0), RING)
         yield file_of(Route([(value, 0)], 1, 1))
-    yield sharing([(512, 512), (0, 0), (3, 0), (-512, 9)], [(1, 2, 3, 0), (0, 3, 3, 0), (1, 3, 3, 0)])
+    points = [(512, 512), (0, 0), (3, 0), (-512, 9)]
+    yield sharing(points, [(1, 2, 3, 0), (0, 3, 3, 0), (1, 3, 3, 0)])
 
 
 def zigzag(legs, step, height):
@@ -196,7 +198,7 @@ def full_boards():
         yield file_of(Route(zigzag(legs, 6, 3), 2, 0), RING)
         yield file_of(Route(meander(legs, 5, 6), 3, 0))
         yield file_of(Route(meander(legs, 2, 4), 1, 1))
-        # Only the middle row has a run for each leg, and a line covers it: after the legs, before them.
+        # The middle row alone has a run for each leg; a line covers it after the legs, or before.
         cover = [(2 * legs - 1, 1), (-2, 1)]
         yield file_of(Route([*meander(legs, 2, 2), *cover], 1, 0), LINE)
         yield file_of(Route([*cover, *meander(legs, 2, 2)], 1, 0), LINE)
@@ -224,7 +226,10 @@ def sixteen(rng):
 def shared_points(rng):
     for _ in range(6):
         points = [point_within(rng, 12) for _ in range(6)]
-        parts = [(first, rng.randint(2, 6 - first), rng.randint(0, 4), rng.choice((0, 1))) for first in range(4)]
+        parts = [
+            (first, rng.randint(2, 6 - first), rng.randint(0, 4), rng.choice((0, 1)))
+            for first in range(4)
+        ]
         yield sharing(points, parts, gap=bytes(rng.randrange(3)))
     # Points that overlap by a half: y of one is x of the next.
     numbers = words16(*range(-6, 12, 2))
@@ -234,7 +239,8 @@ def shared_points(rng):
 
 def unnamed_bytes(rng):
     """Odd offsets, and bytes before, between and behind the points that no entry names."""
-    for gap, behind in product((b"", b"\xff", b"\x00\x80\x07", b"\xff" * 8), (b"", b"\xff", b"\x01\x02")):
+    gaps, ends = (b"", b"\xff", b"\x00\x80\x07", b"\xff" * 8), (b"", b"\xff", b"\x01\x02")
+    for gap, behind in product(gaps, ends):
         routes = [random_route(rng, 9, rng.randint(0, 4)) for _ in range(2)]
         yield file_of(*routes, gap=gap, behind=behind)
     for k in (0, 1, 4, 7):
@@ -245,23 +251,25 @@ def unnamed_bytes(rng):
 
 def few_points():
     """No point and one point, which have no segments; two points, also closed and equal."""
-    for points, closed in product(([], [(0, 0)], [(4, 4), (4, 4)], [(0, 0), (7, 2)], [(7, 2), (0, 0)]), (0, 1)):
-        for width in (0, 1, 3, 6):
-            yield file_of(Route(points, width, closed))
+    routes = ([], [(0, 0)], [(4, 4), (4, 4)], [(0, 0), (7, 2)], [(7, 2), (0, 0)])
+    for points, closed, width in product(routes, (0, 1), (0, 1, 3, 6)):
+        yield file_of(Route(points, width, closed))
 
 
 def every_width(rng):
     for width in range(65):
-        open_points = [(0, 0), *(point_within(rng, 12) for _ in range(2))]
-        ring = [(0, 0), (rng.randint(8, 15), rng.randint(-5, 5)), (rng.randint(-5, 5), rng.randint(8, 15))]
-        yield file_of(Route(open_points, width, 0), Route(ring, width, 1))
+        bend = [(0, 0), *(point_within(rng, 12) for _ in range(2))]
+        ring = [(0, 0), plus((12, 0), point_within(rng, 4)), plus((0, 12), point_within(rng, 4))]
+        yield file_of(Route(bend, width, 0), Route(ring, width, 1))
 
 
 def directions(rng):
     for direction in DIRECTIONS:
         a, b = (0, 0), scaled(direction, 2)
         c = plus(b, rng.choice(DIRECTIONS))
-        yield file_of(Route([a, b], rng.randint(0, 5), 0), Route([a, b, c], rng.randint(0, 5), rng.choice((0, 1))))
+        closed = rng.choice((0, 1))
+        widths = rng.randint(0, 5), rng.randint(0, 5)
+        yield file_of(Route([a, b], widths[0], 0), Route([a, b, c], widths[1], closed))
 
 
 def rings(rng):
@@ -308,7 +316,7 @@ def damaged(rng):
 
 
 def longest():
-    """65,535 bytes, with points up to the last of them; 65,540, whose length is 4 in sixteen bits."""
+    """65,535 bytes, points up to the last of them; 65,540, whose length is 4 in sixteen bits."""
     start = entry_of(4)
     last = MOST_BYTES - 12
     most = (MOST_BYTES - start) // 4

@@ -1,9 +1,9 @@
 #!/usr/bin/env python3
-"""oracle/smallest_walks.py [SRC]: where walks and merged spans differ from the Rust, the smallest inputs.
+"""oracle/smallest_walks.py [SRC]: where walks and merged spans differ from the Rust, small inputs.
 
-The walks have no arithmetic of their own: they leave i32 where their joins do (`smallest_joins.py`).
-Columns painted twice need three spans, so four points; all routes of four points within the box 1 are
-tried, widths from 0 on.
+The walks have no arithmetic of their own: they leave i32 where their joins do. A column painted
+twice needs three spans, so four points; all routes of four points within the box 1 are tried, from
+width 0 on.
 """
 
 import subprocess
@@ -71,8 +71,8 @@ def main():
     source = sys.argv[1] if len(sys.argv) > 1 else driver.SOURCE
     for variant in ("checked", "release"):
         driver.build(source, variant)
-    for place, alone in (("painted twice by the printed body alone", True), ("painted twice", False)):
-        assert first_painted_twice(alone) == WITNESSES[place], place
+    assert first_painted_twice(True) == WITNESSES["painted twice by the printed body alone"]
+    assert first_painted_twice(False) == WITNESSES["painted twice"]
     for place, question in {**WITNESSES, "a closed route of one point": ONE_POINT}.items():
         print(f"{place}: {question}")
         print(f"  checked {told(question, 'checked')}")

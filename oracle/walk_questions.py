@@ -99,7 +99,7 @@ def offsets(rng):
 
 
 def doubled(rng):
-    """Points that follow themselves: the first, the last, one between, all; and the first again at the end."""
+    """A point that follows itself: the first, the last, one between, all; the first at the end."""
     for width, size in product((0, 1, 3, 8), (5, 60)):
         a, b, c = random_route(rng, 3, size)
         for points in (
@@ -210,17 +210,18 @@ def orders():
 
 
 def comings_back(rng):
-    """Small routes that come back to a row, all their rows: spans painted twice, spans left apart."""
-    for count, size, width in ((4, 2, 0), (4, 3, 1), (5, 4, 1), (6, 5, 2), (7, 6, 3), (9, 7, 0), (12, 9, 1)):
-        for _ in range(5):
-            yield from merged_of(rng, random_route(rng, count, size), width, 12)
+    """All rows of small routes that come back to a row: painted twice, or left apart."""
+    kinds = ((4, 2, 0), (4, 3, 1), (5, 4, 1), (6, 5, 2), (7, 6, 3), (9, 7, 0), (12, 9, 1))
+    for count, size, width in kinds * 5:
+        yield from merged_of(rng, random_route(rng, count, size), width, 12)
 
 
 def across_the_box(rng):
     """Long lines: most of them leave i32 in the Rust where the width is large."""
     for width in range(0, 65, 4):
         for count in (2, 3, 6):
-            points = [(rng.choice((-LIMIT, LIMIT, rng.randint(-LIMIT, LIMIT))), y) for _, y in random_route(rng, count, LIMIT)]
+            points = random_route(rng, count, LIMIT)
+            points[0], points[-1] = (-LIMIT, points[0][1]), (LIMIT, points[-1][1])
             yield one_walk_of(rng, points, width)
             yield from merged_of(rng, points, width, 2)
 

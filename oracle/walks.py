@@ -1,4 +1,4 @@
-"""Walks along routes, merged spans and rows, over exact numbers: document 01, module 6 and "The board".
+"""Walks, merged spans and rows of a route over exact numbers: 01's module 6 and "The board".
 
 A walk is the list of its segments, each made from the points around its own place.
 """
@@ -43,7 +43,7 @@ def span_on(segment, row):
 
 
 def merged(spans):
-    """The merged spans by W6: an empty span changes nothing, and one that does not touch the last begins anew."""
+    """The merged spans by W6: empty ones change nothing; one apart from the last begins anew."""
     found = []
     for span in spans:
         if is_empty(span):
@@ -57,7 +57,7 @@ def merged(spans):
 
 
 def merged_as_printed(spans):
-    """What the printed iterator hands out: an empty span is never extended, nor does it extend another."""
+    """The same by the printed body: an empty span neither extends another nor is extended."""
     found, current = [], NEW
     for span in spans:
         joined, hull = try_extend(current, span)
@@ -91,7 +91,7 @@ def rows_of(segments):
 
 
 def runs_by_row(segments):
-    """Of each row the runs of its lit columns, and the most runs that there are after some segment."""
+    """Of each row: the row, the most runs that there are after some segment, the runs."""
     spans = [spans_by_row(segment) for segment in segments]
     for row in rows_of(segments):
         lit, most = set(), 0

@@ -1,8 +1,9 @@
 //! The driver: reads one question a line, prints one answer a line, as the README tells.
 //!
-//! It knows no limits, save those of route files. An answer is `overflow` where an operation left i32, and `not i32` where a
-//! number of the question has no place in i32. Called with the word `places`, it also tells what
-//! overflowed and where: `overflow geometry/mod.rs:44:9: attempt to multiply with overflow`.
+//! It knows no limits, save those of route files. An answer is `overflow` where an operation left
+//! i32, and `not i32` where a number of the question has no place in i32. Called with the word
+//! `places`, it also tells what overflowed and where:
+//! `overflow geometry/mod.rs:44:9: attempt to multiply with overflow`.
 
 mod draw_target;
 mod geometry;

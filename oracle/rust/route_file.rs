@@ -1,6 +1,5 @@
-//! What the program `rows` prints for a route file, from document 01: the form, the refusals and the
-//! board are written here, the segments and their spans are the printed Rust's. Only this part of the
-//! driver knows limits.
+//! What the program `rows` prints of a route file, by document 01. The form, the refusals and the
+//! board are written here; the segments and their spans are the printed Rust's.
 
 use crate::{
     geometry::Point,
