@@ -2,11 +2,9 @@
 //! `stdout`, and comes from two other calculations of the same rules (oracle/README.md).
 use libc::STDIN_FILENO;
 use line_join::Caps;
-use line_join::Corners;
 use line_join::Filler;
 use line_join::Join;
 use line_join::Joined;
-use line_join::Kind;
 use line_join::end;
 use line_join::end_cap_lines;
 use line_join::filler_line;
@@ -15,6 +13,7 @@ use line_join::is_degenerate;
 use line_join::start;
 use line_join::start_cap_lines;
 use replay_joins::join_at;
+use replay_joins::say_join;
 use replay_text::after;
 use replay_text::line_at;
 use replay_text::offset_at;
@@ -22,9 +21,7 @@ use replay_text::point_at;
 use replay_text::say;
 use replay_text::say_bool;
 use replay_text::say_line;
-use replay_text::say_point;
 use replay_text::say_refused;
-use shapes::Side;
 
 fn main() {
     let mut questions = [0u8; 262144];
@@ -91,48 +88,6 @@ fn say_joined(joined: Joined) {
         Joined::Made(join) => say_join(join),
         Joined::Refused(number) => say_refused(number),
     }
-}
-
-fn say_join(join: Join) {
-    let kind = join.kind;
-    let ending = join.ending;
-    let starting = join.starting;
-    say_kind(kind);
-    say_corners(ending);
-    say_corners(starting);
-}
-
-fn say_kind(kind: Kind) {
-    match kind {
-        Kind::Miter => say(b"Miter"),
-        Kind::Bevel(side) => {
-            say(b"Bevel");
-            say_side(side);
-        }
-        Kind::Degenerate(side) => {
-            say(b"Degenerate");
-            say_side(side);
-        }
-        Kind::Colinear => say(b"Colinear"),
-        Kind::Start => say(b"Start"),
-        Kind::End => say(b"End"),
-    }
-}
-
-fn say_side(side: Side) {
-    match side {
-        Side::Left => say(b" Left"),
-        Side::Right => say(b" Right"),
-    }
-}
-
-fn say_corners(corners: Corners) {
-    let left = corners.left;
-    let right = corners.right;
-    say(b" ");
-    say_point(left);
-    say(b" ");
-    say_point(right);
 }
 
 /// The filler line, the lines of both caps, and whether the join is degenerate.

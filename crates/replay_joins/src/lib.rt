@@ -1,4 +1,4 @@
-//! Joins in the questions of the programs that replay stored questions.
+//! Joins in the questions and answers of the programs that replay stored questions.
 ghost use mathlib.Core.Path.{_≡_};
 ghost use Rattle.line_join.specs.Join.{cornersOf};
 ghost use Rattle.replay_joins.specs.Joins.{kindOf, joinAt};
@@ -7,6 +7,8 @@ use line_join::Join;
 use line_join::Kind;
 use replay_text::after;
 use replay_text::line_at;
+use replay_text::say;
+use replay_text::say_point;
 use shapes::Line;
 use shapes::Side;
 
@@ -59,4 +61,47 @@ fn kind_of(digit: u8) -> Kind
         b'6' => Kind::Start,
         _ => Kind::End,
     }
+}
+
+/// Writes a join: its kind in words, and its eight coordinates.
+pub fn say_join(join: Join) {
+    let kind = join.kind;
+    let ending = join.ending;
+    let starting = join.starting;
+    say_kind(kind);
+    say_corners(ending);
+    say_corners(starting);
+}
+
+fn say_kind(kind: Kind) {
+    match kind {
+        Kind::Miter => say(b"Miter"),
+        Kind::Bevel(side) => {
+            say(b"Bevel");
+            say_side(side);
+        }
+        Kind::Degenerate(side) => {
+            say(b"Degenerate");
+            say_side(side);
+        }
+        Kind::Colinear => say(b"Colinear"),
+        Kind::Start => say(b"Start"),
+        Kind::End => say(b"End"),
+    }
+}
+
+fn say_side(side: Side) {
+    match side {
+        Side::Left => say(b" Left"),
+        Side::Right => say(b" Right"),
+    }
+}
+
+fn say_corners(corners: Corners) {
+    let left = corners.left;
+    let right = corners.right;
+    say(b" ");
+    say_point(left);
+    say(b" ");
+    say_point(right);
 }

@@ -1,0 +1,222 @@
+//! Answers questions on walks along a route and on its merged spans: one line of standard input, one line of standard output.
+//! What it must write stands in `stdout`, and comes from two other calculations of the same rules (oracle/README.md).
+ghost use Prim.Native.Nat.{_≤_};
+use libc::STDIN_FILENO;
+use replay_joins::say_join;
+use replay_text::after;
+use replay_text::offset_at;
+use replay_text::say;
+use replay_text::say_next;
+use replay_text::say_number;
+use replay_text::say_refused;
+use route_joins::Step;
+use scanline_intersections::Merged;
+use shapes::Offset;
+use thick_segment::Segment;
+
+fn main() {
+    let mut questions = [0u8; 262144];
+    let n = io::read_full(STDIN_FILENO, &mut questions);
+    answer_all(&questions[..n]);
+}
+
+fn answer_all(questions: &[u8]) {
+    let mut at = 0;
+    while at < questions.len() {
+        answer(questions, at);
+        at = text::skip_past(questions, at, b'\n');
+    }
+}
+
+/// What stands before the list of coordinates: how many there are, and the place of the first.
+struct Asked {
+    kind: u8,
+    width: i64,
+    offset: Offset,
+    row: i64,
+    count: i64,
+    next: usize,
+}
+
+/// A letter that names the kind, a width, an offset, a row, and a list of coordinates after their number.
+fn answer(questions: &[u8], at: usize) {
+    let asked = asked_at(questions, at);
+    let n = list_size(asked.count);
+    let mut room = [0i64; 520];
+    answer_in(questions, asked, &mut room[..n]);
+    say(b"\n");
+}
+
+fn asked_at(questions: &[u8], at: usize) -> Asked {
+    let kind = text::byte_at(questions, at);
+    let width = text::number_at(questions, after(after(at)));
+    let place = after(width.next);
+    let offset = offset_at(questions, place);
+    let row = text::number_at(questions, after(after(place)));
+    let count = text::number_at(questions, after(row.next));
+    Asked {
+        kind,
+        width: width.value,
+        offset,
+        row: row.value,
+        count: count.value,
+        next: after(count.next),
+    }
+}
+
+/// The list has as many places as there are coordinates.
+fn answer_in(questions: &[u8], asked: Asked, list: &mut [i64]) {
+    read_numbers(questions, asked.next, &mut *list);
+    answer_kind(asked, list);
+}
+
+/// A number from 0 to 520 as a size; any other is 520.
+fn list_size(n: i64) -> usize
+    ensures { λ r. ⌜ r ≤ 520 ⌝ }
+{
+    if n < 0 {
+        return 520;
+    }
+    if 520 < n {
+        return 520;
+    }
+    n as usize
+}
+
+/// Reads as many numbers as the list has places, a byte between each two.
+fn read_numbers(questions: &[u8], at: usize, out: &mut [i64]) {
+    let mut next = at;
+    let mut i = 0;
+    while i < out.len() {
+        let number = text::number_at(questions, next);
+        let value = number.value;
+        out[i] = value;
+        next = after(number.next);
+        i += 1;
+    }
+}
+
+fn answer_kind(asked: Asked, coordinates: &[i64]) {
+    let kind = asked.kind;
+    let width = asked.width;
+    let offset = asked.offset;
+    let row = asked.row;
+    match kind {
+        b'O' => say_open(coordinates, width),
+        b'C' => say_closed(coordinates, width, offset),
+        b'N' => say_polyline(coordinates, width),
+        b'M' => say_merged(coordinates, width, row),
+        _ => {}
+    }
+}
+
+/// The segments of an open route, then the end.
+fn say_open(coordinates: &[i64], width: i64) {
+    let started = thick_segment_iter::start(coordinates, width);
+    if started.refusal != 0 {
+        say_refused(started.refusal);
+        return;
+    }
+    let mut walk = started.walk;
+    let mut left: usize = 300;
+    while 0 < left {
+        let stepped = thick_segment_iter::step(coordinates, walk);
+        let step = stepped.step;
+        walk = stepped.walk;
+        left = if say_step(step) { left - 1 } else { 0 };
+    }
+}
+
+/// The segments of a closed route, then the end.
+fn say_closed(coordinates: &[i64], width: i64, offset: Offset) {
+    let started = closed_thick_segment_iter::start(coordinates, width, offset);
+    if started.refusal != 0 {
+        say_refused(started.refusal);
+        return;
+    }
+    let mut walk = started.walk;
+    let mut left: usize = 300;
+    while 0 < left {
+        let stepped = closed_thick_segment_iter::step(coordinates, walk);
+        let step = stepped.step;
+        walk = stepped.walk;
+        left = if say_step(step) { left - 1 } else { 0 };
+    }
+}
+
+/// The segments of a polyline, then the end.
+fn say_polyline(coordinates: &[i64], width: i64) {
+    let started = scanline_intersections::start(coordinates, width, 0);
+    if started.refusal != 0 {
+        say_refused(started.refusal);
+        return;
+    }
+    let mut walk = started.walk;
+    let mut left: usize = 300;
+    while 0 < left {
+        let stepped = scanline_intersections::next_segment(coordinates, walk);
+        let step = stepped.step;
+        walk = stepped.walk;
+        left = if say_step(step) { left - 1 } else { 0 };
+    }
+}
+
+/// The merged spans of a polyline on a row, then the end.
+fn say_merged(coordinates: &[i64], width: i64, row: i64) {
+    let started = scanline_intersections::start(coordinates, width, row);
+    if started.refusal != 0 {
+        say_refused(started.refusal);
+        return;
+    }
+    let mut walk = started.walk;
+    let mut left: usize = 300;
+    while 0 < left {
+        let merged = scanline_intersections::next(coordinates, walk);
+        walk = merged.walk;
+        left = if say_span(merged) { left - 1 } else { 0 };
+    }
+}
+
+/// Writes the next merged span; whether there may be more.
+fn say_span(merged: Merged) -> bool {
+    if merged.refusal != 0 {
+        say_refused(merged.refusal);
+        return false;
+    }
+    if merged.found {
+        let span = merged.span;
+        say_number(span.start);
+        say_next(span.end);
+        say(b" ");
+        return true;
+    }
+    say(b"end");
+    false
+}
+
+/// Writes what a step answered; whether there may be more.
+fn say_step(step: Step) -> bool {
+    match step {
+        Step::Drawn(segment) => {
+            say_segment(segment);
+            true
+        }
+        Step::End => {
+            say(b"end");
+            false
+        }
+        Step::Refused(number) => {
+            say_refused(number);
+            false
+        }
+    }
+}
+
+fn say_segment(segment: Segment) {
+    let start = segment.start;
+    let end = segment.end;
+    say_join(start);
+    say(b" / ");
+    say_join(end);
+    say(b" | ");
+}
