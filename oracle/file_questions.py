@@ -101,6 +101,7 @@ def headers():
     for n in (0, 1, 2, 15, 16, 17, 18, 255, 256, 257, 272, 32768, 65535):
         entries = [(entry_of(n), 0, 1, 0)] * min(n, 18)
         yield with_length(changed(of_entries(entries, b""), 0, n))
+    yield of_entries([(entry_of(256), 0, 1, 0)] * 256, b"")
     good = file_of(BEND, RING)
     size = len(good)
     for length in (0, 1, 3, 4, size - 1, size + 1, size + 256, 256 * size, 65535):
