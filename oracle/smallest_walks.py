@@ -2,8 +2,8 @@
 """oracle/smallest_walks.py [SRC]: where walks and merged spans differ from the Rust, small inputs.
 
 The walks have no arithmetic of their own: they leave i32 where their joins do. A column painted
-twice needs three spans, so four points; all routes of four points within the box 1 are tried, from
-width 0 on.
+twice needs three spans, so four points; the routes of four points within the box 1 are tried in
+order, from width 0 on.
 """
 
 import subprocess
