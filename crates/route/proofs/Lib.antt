@@ -1,4 +1,6 @@
 pub mod Places
 pub mod Offers
 pub mod Chains
+pub mod Drawn
+pub mod Laws
 pub mod Ranges

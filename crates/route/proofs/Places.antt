@@ -112,7 +112,7 @@ unfolding segmentIn
 between-joins route k e = rw e
 
 -- the join at place i of the array
-kept-at : (join : ℕ → Join) {n i : ℕ} → i < n → getD (keptIn (joinsFrom join 0 n)) i noJoin ≡ join i
+pub kept-at : (join : ℕ → Join) {n i : ℕ} → i < n → getD (keptIn (joinsFrom join 0 n)) i noJoin ≡ join i
 unfolding keptIn
 kept-at join {n} {i} h =
     let long = joins-long join 0 n in

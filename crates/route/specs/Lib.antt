@@ -1,3 +1,4 @@
 pub mod Answers
 pub mod Joined
 pub mod Rows
+pub mod Words
