@@ -3,37 +3,29 @@
 use mathlib.Core.Path.{_≡_, refl, sym, ap, _∙_}
 use mathlib.Core.Logic.{_↔_, _⊎_, inl, inr, ⊎-elim}
 use mathlib.Core.Bool.{Bool, true, false, cond}
-use mathlib.Core.List.{List, [], _∷_}
+use mathlib.Core.List.{List, []}
 use Prim.Native.Nat.{ℕ, zero, suc, _+_, _-_, _≤_, _<_}
 use native.Mathlib.Omega.{arith}
-use borrow.Author.Tests.{leb-true, leb-false, eq-eqb}
-use lib.Dec.{leb, eqb, lit<}
+use borrow.Author.Tests.{leb-true, leb-false}
+use lib.Dec.{leb}
 use lib.IntN.{ℤ}
-use lib.ListN.{length, getD}
-use Rattle.whole.specs.Number.{Within, isWithin}
-use Rattle.whole.proofs.Laws.{within-iff}
-use Rattle.whole.proofs.Tests.{eqb-iff, never, bad-first, good-first, good-later}
+use lib.ListN.{getD}
+use Rattle.whole.specs.Number.{Within}
 use Rattle.shapes.specs.Limits.{pointLimit, cornerLimit}
-use Rattle.shapes.specs.declared.Offset.the-variants.{None}
-use Rattle.line_join.specs.declared.Join.{Join}
-use Rattle.line_join.specs.Caps.{JoinNear}
 use Rattle.thick_segment.specs.declared.Segment.{Segment}
-use Rattle.thick_segment.specs.Segments.{SegmentNear, spanOn}
+use Rattle.thick_segment.specs.Segments.{SegmentNear}
 use Rattle.thick_segment.proofs.Laws.{span-least}
 use Rattle.board.specs.declared.Board.{Board}
 use Rattle.board.specs.Runs.{lit}
-use Rattle.board.specs.Boards.{boardOf, live, listed, listRefusal}
+use Rattle.board.specs.Boards.{boardOf, live}
 use Rattle.board.specs.Histories.{covered, Lights}
 use Rattle.coordinates.specs.Points.{pointCount}
-use Rattle.coordinates.specs.Refusal.{routeRefusal, Accepted}
-use Rattle.coordinates.proofs.Laws.{accepted-exactly, refused-most}
-use Rattle.route_joins.specs.Joins.{joinAt, joinCount, openJoin, closedJoin, openSegment, closedSegment, segmentAt, openCount, segmentCount, areJoinsNear, placeAfter}
-use Rattle.route_joins.proofs.Near.{joins-exactly}
+use Rattle.coordinates.specs.Refusal.{Accepted}
+use Rattle.route_joins.specs.Joins.{joinAt, joinCount, openSegment, closedSegment, segmentAt, openCount, segmentCount, areJoinsNear}
 use Rattle.route_joins.specs.Steps.{noJoin}
-use Rattle.route.specs.Joined.{joinsOf, segmentsIn, nextIn, segmentIn, Kept}
+use Rattle.route.specs.Joined.{joinsOf, segmentsIn, nextIn, segmentIn}
 use Rattle.route.specs.Rows.{spansFrom, offerAll, boardOn}
 use Rattle.route.specs.Words.{spansOn, Crowded}
-use Rattle.route.specs.Answers.{drawRefusal, rowRefusal}
 use Rattle.route.proofs.Places.{kept-at, counted, ends-inside, segment-near, kept-joins}
 use Rattle.route.proofs.Offers.{span-inside}
 use Rattle.route.proofs.Laws.{AllFit, lights, eight-exactly}
@@ -118,7 +110,7 @@ module _ {closed : Bool} {cs : List ℤ} {w : ℤ} (a : Accepted pointLimit clos
       (spans-same (segmentIn (joinsOf closed cs w)) (segmentAt closed cs w) row 0 n (λ i h. let z : 0 + i ≡ i = omega arith in rw z (segment-is closed cs w h))
       ∙ ap (spansFrom (segmentAt closed cs w) row 0) (segments-all a))
 
-  spans-all-fit : (row : ℤ) → AllFit row (spansOn closed cs w row)
+  pub spans-all-fit : (row : ℤ) → AllFit row (spansOn closed cs w row)
   unfolding spansOn joinsOf
   spans-all-fit row =
       let kept = kept-joins closed cs w (a .few) near in

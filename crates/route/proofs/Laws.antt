@@ -3,10 +3,10 @@
 use mathlib.Core.Path.{_≡_, refl, sym, ap, subst, _∙_}
 use mathlib.Core.Logic.{_↔_}
 use mathlib.Core.Bool.{Bool, true, false, cond, _||_}
-use mathlib.Core.List.{List, [], _∷_, _++_, append-assoc, append-nil}
-use Prim.Native.Nat.{ℕ, zero, suc, _+_, _-_, _≤_, _<_}
+use mathlib.Core.List.{List, [], _∷_, _++_, append-assoc}
+use Prim.Native.Nat.{_+_, _<_}
 use native.Mathlib.Omega.{arith}
-use borrow.Author.Tests.{eqb-true, eqb-false, eq-eqb, ne-eqb}
+use borrow.Author.Tests.{eqb-true, eqb-false, eq-eqb}
 use lib.Dec.{eqb}
 use lib.IntN.{ℤ}
 use lib.ListN.{length}
@@ -18,17 +18,17 @@ use Rattle.shapes.specs.Limits.{cornerLimit, boardRuns}
 use Rattle.board.specs.declared.Board.{Board}
 use Rattle.board.specs.declared.Run.{Run}
 use Rattle.board.specs.Runs.{lit, edge, Ascending}
-use Rattle.board.specs.Boards.{Sound, isInside, Offerable, offerRefusal, offered, begun, boardOf, live}
+use Rattle.board.specs.Boards.{isInside, Offerable, offerRefusal, offered, begun, boardOf, live}
 use Rattle.board.specs.Histories.{Event, offers, after, reached, accepted, covered, boardAfter, spansAfter, Lights}
 use Rattle.board.proofs.Laws.{true-sound, offered-row}
 use Rattle.board.proofs.Demand.{demand-3, reached-sound}
 use Rattle.route.specs.Rows.{offerAll}
-use Rattle.route.specs.Words.{offering, spansOn, Crowded}
+use Rattle.route.specs.Words.{offering, Crowded}
 use Rattle.route.proofs.Offers.{offer-none, offer-on, offer-stop}
 
 -- ---- spans offered one after the other, and the history of these offers
 
-refusal-is : (b : Board) (s : Span) → offered b s .refusal ≡ offerRefusal b s
+pub refusal-is : (b : Board) (s : Span) → offered b s .refusal ≡ offerRefusal b s
 unfolding offered
 refusal-is b s = refl
 
@@ -167,7 +167,11 @@ module _ {row : ℤ} (near : Within row cornerLimit) where
           let some : 0 < offered (drawn us) s .refusal = omega (arith, eqb-false (offerRefusal (drawn us) s) 0 t, refusal-is (drawn us) s) in
           let full = sym (refusal-is (drawn us) s) ∙ ap (λ a. a .refusal) (sym (offer-stop (drawn us) s ss some)) ∙ eight in
           record {
-            before = us; span = s; later = ss; split = refl; accepted = e;
+            before = us;
+            span = s;
+            later = ss;
+            split = refl;
+            accepted = e;
             needs = eight-needs us e s (f .0) (ap (λ d. offerRefusal d s) (sym (board-is near us e)) ∙ full);
           }
 

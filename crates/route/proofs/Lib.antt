@@ -4,3 +4,4 @@ pub mod Chains
 pub mod Drawn
 pub mod Laws
 pub mod Ranges
+pub mod Refused
