@@ -1,3 +1,4 @@
+pub mod Bounds
 pub mod Places
 pub mod Offers
 pub mod Chains
