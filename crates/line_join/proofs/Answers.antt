@@ -8,7 +8,7 @@ use native.Mathlib.Omega.{arith}
 use borrow.Author.Tests.{eqb-true, eq-eqb, ne-eqb}
 use lib.Dec.{eqb, lit≤}
 use lib.IntN.{ℤ}
-use Rattle.whole.proofs.Tests.{and-iff, Chosen, chosen}
+use Rattle.whole.proofs.Tests.{and-iff, eqb-iff, Chosen, chosen, never, bad-first, good-first, good-later}
 use Rattle.shapes.specs.declared.Point.{Point}
 use Rattle.shapes.specs.declared.Side.the-variants.{Left, Right}
 use Rattle.shapes.specs.declared.Offset.{Offset}
@@ -82,14 +82,13 @@ unfolding answerOf joinRefusal inputRefusal cornerRefusal
 refusal-exactly w near j exactly =
     let n = joinRefusal w near j in
     let chain = answer-by n j (eqb n 0) refl ∙ chain-by (isThin w) near (isJoinNear cornerLimit j) in
-    let third = chosen {A = ℕ} (isJoinNear cornerLimit j) 0 5 (join-near-iff cornerLimit j) in
-    let second = chosen {A = ℕ} near (cond (isJoinNear cornerLimit j) 0 5) 4 exactly in
-    let first = chosen {A = ℕ} (isThin w) (cond near (cond (isJoinNear cornerLimit j) 0 5) 4) 3 (thin-iff w) in
+    let thin = thin-iff w in
+    let corners = join-near-iff cornerLimit j in
     record {
-      none = λ t p c. chain ∙ first .holds t ∙ second .holds p ∙ third .holds c;
-      width = λ t. chain ∙ first .fails t;
-      points = λ t p. chain ∙ first .holds t ∙ second .fails p;
-      corners = λ t p c. chain ∙ first .holds t ∙ second .holds p ∙ third .fails c;
+      none = rw chain (good-later (isThin w) thin (λ e. omega arith) (good-later near exactly (λ e. omega arith) (bad-first (isJoinNear cornerLimit j) corners (λ e. omega arith))));
+      width = rw chain (good-first (isThin w) thin (never near (never (isJoinNear cornerLimit j) (λ e. omega arith) (λ e. omega arith)) (λ e. omega arith)));
+      points = rw chain (good-later (isThin w) thin (λ e. omega arith) (good-first near exactly (never (isJoinNear cornerLimit j) (λ e. omega arith) (λ e. omega arith))));
+      corners = rw chain (good-later (isThin w) thin (λ e. omega arith) (good-later near exactly (λ e. omega arith) (good-first (isJoinNear cornerLimit j) corners (λ e. omega arith))));
     }
 
 module _ (a b : Point) (w : ℤ) (o : Offset) where
@@ -108,20 +107,17 @@ points-refusal a b c w o = refusal-exactly w (areNear a b c) (joinOf a b c w o) 
 -- a route's first and last join are never refused with 5
 module _ (a b : Point) (w : ℤ) (o : Offset) (h : LineNear pointLimit (lineOf a b)) (t : Thin w) where
   pub start-accepted : startAnswer a b w o .refusal ≡ 0
-  start-accepted = start-refusal a b w o .none t h (join-near-more (start-within o (h .start-near) (h .end-near) t) (lit≤ tt))
+  start-accepted = start-refusal a b w o .none .1 (t, (h, join-near-more (start-within o (h .start-near) (h .end-near) t) (lit≤ tt)))
 
   pub end-accepted : endAnswer a b w o .refusal ≡ 0
-  end-accepted = end-refusal a b w o .none t h (join-near-more (end-within o (h .start-near) (h .end-near) t) (lit≤ tt))
-
-zero-iff : (n : ℕ) → (eqb n 0 ≡ true) ↔ (n ≡ 0)
-zero-iff n = (eqb-true n 0, eq-eqb n 0)
+  end-accepted = end-refusal a b w o .none .1 (t, (h, join-near-more (end-within o (h .start-near) (h .end-near) t) (lit≤ tt)))
 
 -- with no refusal the join, else the refusal with 0 in every other value
 pub answer-chosen : (w : ℤ) (near : Bool) (j : Join) → Chosen (joinRefusal w near j ≡ 0) (answerOf w near j) (record { refusal = 0; kind = kindNumber (j .kind); ending = j .ending; starting = j .starting }) (record { refusal = joinRefusal w near j; kind = 0; ending = noCorners; starting = noCorners })
 unfolding answerOf joinValues
 answer-chosen w near j =
     let n = joinRefusal w near j in
-    let c = chosen (eqb n 0) (joined.Made j) (joined.Refused n) (zero-iff n) in
+    let c = chosen (eqb n 0) (joined.Made j) (joined.Refused n) (eqb-iff n 0) in
     record { holds = λ e. ap joinValues (c .holds e); fails = λ e. ap joinValues (c .fails e) }
 
 -- ---- answers on a join handed in: inside the limit the answer, else refusal 5 with 0 in every other value

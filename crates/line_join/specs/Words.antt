@@ -1,6 +1,6 @@
 -- What 01's order says of a join's kind and of its refusal, in words: when it is which.
 use mathlib.Core.Path.{_≡_}
-use mathlib.Core.Logic.{_⊎_}
+use mathlib.Core.Logic.{_↔_, _⊎_}
 use mathlib.Core.Bool.{true, false}
 use Prim.Native.Nat.{ℕ}
 use lib.IntN.{ℤ, pos}
@@ -58,9 +58,9 @@ module _ (first second : Edges) where
   HasKind mid w Start = ⊥
   HasKind mid w End = ⊥
 
--- which refusal n is, where W says that the width is good, P that the points are, and C that the corners are
+-- which refusal n is, and exactly when, where W says that the width is good, P that the points are, and C that the corners are
 pub record Refusals (W P C : Type 0) (n : ℕ) : Type 0 where
-  pub none : W → P → C → n ≡ 0
-  pub width : (W → ⊥) → n ≡ 3
-  pub points : W → (P → ⊥) → n ≡ 4
-  pub corners : W → P → (C → ⊥) → n ≡ 5
+  pub none : (n ≡ 0) ↔ (W × (P × C))
+  pub width : (n ≡ 3) ↔ (W → ⊥)
+  pub points : (n ≡ 4) ↔ (W × (P → ⊥))
+  pub corners : (n ≡ 5) ↔ (W × (P × (C → ⊥)))
