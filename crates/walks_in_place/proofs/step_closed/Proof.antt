@@ -1,0 +1,20 @@
+-- `walks_in_place::step_closed` meets its contract: the walk of its MIR that `Stepping` has, at a closed walk. Assumes nothing.
+use contract.Running.{givenOf, tables, tablesOf}
+use denote.Triple.Spec.{tripleOf}
+use denote.Triple.Table.{entered, cited}
+use Rattle.closed_thick_segment_iter.proofs.step.Symbol as step
+use Rattle.closed_thick_segment_iter.proofs.step.Met as step-thm
+use Rattle.walks_in_place.proofs.Stepping.{ByValue, meets}
+use Rattle.walks_in_place.proofs.Walkers.{closed-walker}
+use Rattle.walks_in_place.proofs.step_closed.Key as key
+use Rattle.walks_in_place.proofs.step_closed as in-place
+use Rattle.walks_in_place.proofs.step_closed.Statement as stated
+use Rattle.walks_in_place.proofs.step_closed.Code as code
+
+pub step-closed-spec : {M : Type 1} → stated.statement M
+unfolding code.routine tablesOf
+step-closed-spec 𝓤 H 𝓜 𝓖 𝓡 =
+    entered 𝓤 H (tripleOf 𝓤 H (𝓖 .A) in-place.signature (in-place.spec 𝓤 H (𝓖 .A) (𝓜 .mem) (𝓡 .run)))
+    (tables 𝓤 H 𝓜 𝓡 code.env .C) (tables 𝓤 H 𝓜 𝓡 code.env .Λ) key.name code.function (code.unfolded 𝓤 H 𝓜 𝓡)
+    (meets closed-walker 𝓤 H (𝓖 .A) (givenOf 𝓤 H 𝓜 𝓖) (tablesOf 𝓤 H 𝓜 (tables 𝓤 H 𝓜 𝓡 code.env))
+    (cited 𝓤 H (ByValue closed-walker 𝓤 H (𝓖 .A)) 𝓜 𝓡 code.env step.name step.routine code.calls-closed-thick-segment-iter·step (step-thm.met 𝓤 H 𝓜 𝓖 𝓡)))
