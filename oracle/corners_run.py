@@ -1,0 +1,155 @@
+#!/usr/bin/env python3
+"""oracle/corners_run.py: what the program corners_run must write, by the independent calculation.
+
+The questions are those of crates/corners_run/src/main.rt: document 01's corners marked "Run only".
+"""
+
+import sys
+
+sys.dont_write_bytecode = True
+
+import exact
+import walks
+from board import Replay
+from exact import words
+from joins import edges, meeting
+from plane import dot, minus
+from strokes import LEFT
+
+# Bends found by a search of small ones, and what 01 says of their miters.
+MITERS = (
+    (15, 9, 20, 10, 13, 11),
+    (15, 11, 20, 10, 13, 9),
+    (17, 9, 20, 10, 13, 10),
+    (17, 11, 20, 10, 13, 10),
+)
+KEPT, CUT = "squared miter 36 at width 3: kept", "squared miter 37 at width 3: cut"
+RIGHT_ANGLE = (0, 0, 60, 0, 60, 60)
+AT_LIMITS = (511, -511, -511, -511, -511, 511)
+# What stands in a lent list before.
+UNTOUCHED = -7
+
+
+def squared_miter(width, bend):
+    """Squared distance of the outer corner from the middle point, kept or not."""
+    a, middle, c = exact.paired(bend)
+    left, right = map(meeting, *edges(a, middle, c, width, "None"))
+    miter = minus((left if left[1] == LEFT else right)[0], middle)
+    return dot(miter, miter)
+
+
+def miter_line(width, bend):
+    join = exact.answer(words("j", *bend, width, 0))
+    fate = {"Miter": "kept", "Bevel": "cut"}[join.split()[0]]
+    square = squared_miter(width, bend)
+    return f"squared miter {square} at width {width}: {fate}; points {words(*bend)}, {join}"
+
+
+def miter_lines():
+    found = [miter_line(3, bend) for bend in MITERS]
+    assert [line.partition(";")[0] for line in found] == [KEPT, KEPT, CUT, CUT]
+    return found
+
+
+def one_beyond():
+    """Each coordinate at its limit, one of them one beyond."""
+    for place, at_limit in enumerate(AT_LIMITS):
+        beyond = at_limit + (1 if at_limit > 0 else -1)
+        yield *AT_LIMITS[:place], beyond, *AT_LIMITS[place + 1 :]
+
+
+def listed(refusal, runs, room):
+    if refusal:
+        return f"list of {room}: refused {refusal}"
+    numbers = [*exact.flat(runs), *[UNTOUCHED] * (room - 2 * len(runs))]
+    total = sum(end - start for start, end in runs)
+    return f"list of {room}: runs {len(runs)}, columns {total}: {words(*numbers)}"
+
+
+def row_words(coordinates, width, row, room):
+    """The runs of an open route's row, in a list of so many numbers."""
+    try:
+        found = segments_of(coordinates, width)
+        rows = {number: (most, runs) for number, most, runs in walks.runs_by_row(found)}
+        most, runs = rows[row]
+        exact.refuse(8, most > walks.MOST_RUNS or 2 * len(runs) > room)
+        return f"row {row}, {listed(0, runs, room)}"
+    except exact.Refused as refusal:
+        return f"row {row}, {listed(refusal, [], room)}"
+
+
+def segments_of(coordinates, width):
+    found = walks.open_segments(exact.route(width, len(coordinates), coordinates), width)
+    exact.refuse_corners(*(join for segment in found for join in segment))
+    return found
+
+
+def bend_lines(width, bend):
+    yield "edges " + exact.answer(words("x", *bend[:4], width, 0))
+    yield "join " + exact.answer(words("j", *bend, width, 0))
+    yield row_words(bend, width, bend[3], 2)
+
+
+def bends():
+    yield 64, RIGHT_ANGLE
+    yield 65, RIGHT_ANGLE
+    yield 1, AT_LIMITS
+    for bend in one_beyond():
+        yield 1, bend
+
+
+def verdict(refusal):
+    return f"refused {refusal}" if refusal else "accepted"
+
+
+def board_lines():
+    """One column more than there is room for; two runs joined; the column again."""
+    replay = Replay()
+    replay.fresh(0)
+
+    def offer(start, end):
+        refusal = replay.offered(0, start, end)
+        return f"offer {start} {end}: {verdict(refusal)}, runs {replay.board.count}"
+
+    def listing(room):
+        runs = replay.board.live()
+        return f"board, {listed(8 if room < 2 * len(runs) else 0, runs, room)}"
+
+    for column in range(0, 66, 2):
+        yield offer(column, column + 1)
+    yield listing(64)
+    yield listing(63)
+    yield offer(1, 2)
+    yield offer(64, 65)
+    yield listing(64)
+
+
+def route_refusal(coordinates, width):
+    try:
+        exact.runs_of_route(coordinates, width, closed=False)
+    except exact.Refused as refusal:
+        return refusal
+    return 0
+
+
+def zigzag_lines(strokes):
+    points = [(4 * i, 4 * (i % 2)) for i in range(strokes + 1)]
+    coordinates = exact.flat(points)
+    for room in (64, 63, 66):
+        yield row_words(coordinates, 1, 2, room)
+    yield f"all rows {verdict(route_refusal(coordinates, 1))}"
+
+
+def lines():
+    yield from miter_lines()
+    for width, bend in bends():
+        for line in bend_lines(width, bend):
+            yield f"width {width}, points {words(*bend)}: {line}"
+    yield from board_lines()
+    for strokes in (32, 33):
+        for line in zigzag_lines(strokes):
+            yield f"zigzag of {strokes} strokes: {line}"
+
+
+if __name__ == "__main__":
+    print("\n".join(lines()))
