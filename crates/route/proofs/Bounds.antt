@@ -1,4 +1,5 @@
--- The rows of a route go from the least to the greatest row of its segments' boxes: none lies outside, and both are rows of some box.
+-- Rows widened by boxes, from no rows at all, go from the least to the greatest row of the boxes: none lies outside, and both are rows of
+-- some box.
 -- Assumes nothing.
 use mathlib.Core.Path.{_≡_, refl, _∙_}
 use mathlib.Core.Logic.{_⊎_, inl, inr, ⊎-elim}
@@ -14,9 +15,7 @@ use Rattle.thick_segment.specs.declared.Segment.{Segment}
 use Rattle.thick_segment.specs.declared.Rectangle.{Rectangle}
 use Rattle.thick_segment.specs.Segments.{boundingBox}
 use Rattle.route.specs.declared.RowRange.{RowRange}
-use Rattle.route.specs.declared.Joins.{Joins}
-use Rattle.route.specs.Joined.{segmentsIn, segmentIn}
-use Rattle.route.specs.Rows.{withBox, noRows, boxesFrom, rowsIn}
+use Rattle.route.specs.Rows.{withBox, noRows, boxesFrom}
 
 -- ---- one box more, of rows that there are
 
@@ -110,25 +109,17 @@ module _ (segment : ℕ → Segment) where
     pub first-met : Met (λ b. b .first .y) 0 n (rows .first)
     pub last-met : Met (λ b. b .last .y) 0 n (rows .last)
 
-  bounds : (n : ℕ) → 0 < n → Bounds n (boxesFrom segment 0 n (noRows 0))
+  pub bounds : (n : ℕ) → 0 < n → Bounds n (boxesFrom segment 0 n (noRows 0))
   unfolding boxesFrom withBox
   bounds zero h = absurd (omega arith)
   bounds (suc n) h =
-      let r = reaches 1 n (record { refusal = 0; some = true; first = box 0 .first .y; last = box 0 .last .y }) refl in
+      let one : RowRange = record { refusal = 0; some = true; first = box 0 .first .y; last = box 0 .last .y } in
+      let wide = boxesFrom segment 1 n one in
+      let r = reaches 1 n one refl in
       record {
         some = r .some;
-        first-holds = λ i h. simp zero-add at (each (λ i. boxesFrom segment 1 n (record { refusal = 0; some = true; first = box 0 .first .y; last = box 0 .last .y }) .first ≤ℤ box i .first .y) 0 n (r .first-before) (r .first-holds) i h);
-        last-holds = λ i h. simp zero-add at (each (λ i. box i .last .y ≤ℤ boxesFrom segment 1 n (record { refusal = 0; some = true; first = box 0 .first .y; last = box 0 .last .y }) .last) 0 n (r .last-before) (r .last-holds) i h);
+        first-holds = λ i h. simp zero-add at (each (λ i. wide .first ≤ℤ box i .first .y) 0 n (r .first-before) (r .first-holds) i h);
+        last-holds = λ i h. simp zero-add at (each (λ i. box i .last .y ≤ℤ wide .last) 0 n (r .last-before) (r .last-holds) i h);
         first-met = ⊎-elim (λ z. here z) (λ m. later m) (r .first-met);
         last-met = ⊎-elim (λ z. here z) (λ m. later m) (r .last-met);
       }
-
--- a route that has segments has rows: the first is the least and the last the greatest of the boxes' rows
-pub rows-bounds : (route : Joins) → 0 < segmentsIn (route .closed) (route .count) → Bounds (segmentIn route) (segmentsIn (route .closed) (route .count)) (rowsIn route)
-unfolding rowsIn
-rows-bounds route h = bounds (segmentIn route) (segmentsIn (route .closed) (route .count)) h
-
--- and one that has none has no rows
-pub rows-none-of : (route : Joins) → segmentsIn (route .closed) (route .count) ≡ 0 → rowsIn route ≡ noRows 0
-unfolding rowsIn boxesFrom
-rows-none-of route e = rw e

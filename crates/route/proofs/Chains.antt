@@ -75,13 +75,16 @@ module _ (closed : Bool) (cs : List ℤ) (w : ℤ) where
       by n true e false h = absurd (omega arith)
       by n false e u h = absurd (eqb-false n 0 e h)
 
+  -- its joins may be drawn
+  pub kept-route : drawRefusal closed cs w ≡ 0 → Kept (joinsOf closed cs w)
+  kept-route e = let zero = route-zero e in kept-joins closed cs w (accepted-exactly pointLimit closed cs w .0 (zero .0) .few) (zero .1)
+
   pub ready : {r : Prepared} → r ≡ preparedOf closed cs w → r .refusal ≤ 0 → Ready closed cs w (r .joins)
   unfolding preparedOf
   ready {r} e none =
       let draw : drawRefusal closed cs w ≡ 0 = sym (ap (λ p. p .refusal) e) ∙ omega arith in
-      let zero = route-zero draw in
-      let joins : r .joins ≡ joinsOf closed cs w = ap (λ p. p .joins) e ∙ rw (eq-eqb (routeRefusal pointLimit closed cs w) 0 (zero .0)) in
-      record { joins = joins; kept = rw joins (kept-joins closed cs w (accepted-exactly pointLimit closed cs w .0 (zero .0) .few) (zero .1)); draw = draw }
+      let joins : r .joins ≡ joinsOf closed cs w = ap (λ p. p .joins) e ∙ rw (eq-eqb (routeRefusal pointLimit closed cs w) 0 (route-zero draw .0)) in
+      record { joins = joins; kept = rw joins (kept-route draw); draw = draw }
 
   pub refused-with : {r : Prepared} → r ≡ preparedOf closed cs w → r .refusal ≡ drawRefusal closed cs w
   unfolding preparedOf

@@ -15,20 +15,18 @@ use Rattle.shapes.specs.Limits.{pointLimit, cornerLimit}
 use Rattle.thick_segment.specs.declared.Segment.{Segment}
 use Rattle.thick_segment.specs.Segments.{SegmentNear}
 use Rattle.thick_segment.proofs.Laws.{span-least}
-use Rattle.board.specs.declared.Board.{Board}
-use Rattle.board.specs.Runs.{lit}
-use Rattle.board.specs.Boards.{boardOf, live}
-use Rattle.board.specs.Histories.{covered, Lights}
+use Rattle.board.specs.Boards.{boardOf}
+use Rattle.board.specs.Histories.{covered, boardAfter, spansAfter}
 use Rattle.coordinates.specs.Points.{pointCount}
 use Rattle.coordinates.specs.Refusal.{Accepted}
 use Rattle.route_joins.specs.Joins.{joinAt, joinCount, openSegment, closedSegment, segmentAt, openCount, segmentCount, areJoinsNear}
 use Rattle.route_joins.specs.Steps.{noJoin}
 use Rattle.route.specs.Joined.{joinsOf, segmentsIn, nextIn, segmentIn}
 use Rattle.route.specs.Rows.{spansFrom, offerAll, boardOn}
-use Rattle.route.specs.Words.{spansOn, Crowded}
+use Rattle.route.specs.Words.{spansOn, offering, Crowded}
 use Rattle.route.proofs.Places.{kept-at, counted, ends-inside, segment-near, kept-joins}
 use Rattle.route.proofs.Offers.{span-inside}
-use Rattle.route.proofs.Laws.{AllFit, lights, eight-exactly}
+use Rattle.route.proofs.Laws.{AllFit, board-is, covered-is, eight-exactly}
 
 -- ---- counts
 
@@ -42,7 +40,7 @@ count-by cs = by (leb 2 (pointCount cs)) refl
     by false e = inr (let low = leb-false 2 (pointCount cs) e in omega arith, refl)
 
 module _ {closed : Bool} {cs : List ℤ} {w : ℤ} (a : Accepted pointLimit closed cs w) where
-  segments-all : segmentsIn closed (joinCount cs) ≡ segmentCount closed cs
+  pub segments-all : segmentsIn closed (joinCount cs) ≡ segmentCount closed cs
   unfolding segmentsIn segmentCount openCount
   segments-all = by closed refl (count-by cs)
     where
@@ -66,7 +64,7 @@ module _ (closed : Bool) (cs : List ℤ) (w : ℤ) where
   same-ends true k e = rw e
   same-ends false k e = refl
 
-  segment-is : {k : ℕ} → k < segmentsIn closed (joinCount cs) → segmentIn (joinsOf closed cs w) k ≡ segmentAt closed cs w k
+  pub segment-is : {k : ℕ} → k < segmentsIn closed (joinCount cs) → segmentIn (joinsOf closed cs w) k ≡ segmentAt closed cs w k
   unfolding segmentIn joinsOf
   segment-is {k} h =
       let i = ends-inside closed h in
@@ -98,15 +96,12 @@ spans-fit f row k (suc left) near =
 -- ---- a row of a route that nothing refuses
 
 module _ {closed : Bool} {cs : List ℤ} {w : ℤ} (a : Accepted pointLimit closed cs w) (near : areJoinsNear cornerLimit closed cs w ≡ true) where
-  abbrev fresh : ℤ → Board
-  fresh row = boardOf row []
-
   -- the board of the row is that of the spans of the walk's segments, offered in walk order to a fresh board
   pub row-draws : (row : ℤ) → boardOn (joinsOf closed cs w) row ≡ offerAll (boardOf row []) (spansOn closed cs w row)
   unfolding boardOn spansOn joinsOf
   row-draws row =
       let n = segmentsIn closed (joinCount cs) in
-      ap (offerAll (fresh row))
+      ap (offerAll (boardOf row []))
       (spans-same (segmentIn (joinsOf closed cs w)) (segmentAt closed cs w) row 0 n (λ i h. let z : 0 + i ≡ i = omega arith in rw z (segment-is closed cs w h))
       ∙ ap (spansFrom (segmentAt closed cs w) row 0) (segments-all a))
 
@@ -117,12 +112,17 @@ module _ {closed : Bool} {cs : List ℤ} {w : ℤ} (a : Accepted pointLimit clos
       spans-fit (segmentAt closed cs w) row 0 (segmentCount closed cs)
       (λ i h. let z : 0 + i ≡ i = omega arith in let more = rw (sym (segments-all a)) at h in rw z (rw (sym (segment-is closed cs w more)) (segment-near kept more)))
 
-  -- its runs light just the columns that the span of some segment covers
-  pub row-lights : {row : ℤ} → Within row cornerLimit → boardOn (joinsOf closed cs w) row .refusal ≡ 0 → Lights (live (boardOn (joinsOf closed cs w) row .board)) (covered (spansOn closed cs w row))
-  row-lights {row} inside e x =
-      let is = row-draws row in
-      ap (λ b. lit (live (b .board)) x) is ∙ lights inside (spansOn closed cs w row) (ap (λ b. b .refusal) (sym is) ∙ e) x
+  -- where there is room, the board is the one that the history of these offers comes to, and they are the spans that it accepted
+  module _ {row : ℤ} (inside : Within row cornerLimit) (e : boardOn (joinsOf closed cs w) row .refusal ≡ 0) where
+    room : offerAll (boardOf row []) (spansOn closed cs w row) .refusal ≡ 0
+    room = ap (λ b. b .refusal) (sym (row-draws row)) ∙ e
+
+    pub row-reached : boardOn (joinsOf closed cs w) row .board ≡ boardAfter row (offering (spansOn closed cs w row))
+    row-reached = ap (λ b. b .board) (row-draws row) ∙ board-is inside (spansOn closed cs w row) room
+
+    pub row-covered : (x : ℤ) → covered (spansAfter row (offering (spansOn closed cs w row))) x ≡ covered (spansOn closed cs w row) x
+    row-covered = covered-is inside (spansOn closed cs w row) room
 
   -- 8 exactly when after some segment the union needs more than 32 runs
-  pub row-eight : {row : ℤ} → Within row cornerLimit → (boardOn (joinsOf closed cs w) row .refusal ≡ 8) ↔ Crowded row (spansOn closed cs w row)
+  pub row-eight : {row : ℤ} → Within row cornerLimit → (boardOn (joinsOf closed cs w) row .refusal ≡ 8) ↔ Crowded (spansOn closed cs w row)
   row-eight {row} inside = rw (row-draws row) (eight-exactly inside (spansOn closed cs w row) (spans-all-fit row))

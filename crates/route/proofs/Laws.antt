@@ -1,13 +1,13 @@
--- A route's row is the demand-3 board of its segments' spans: the runs light just the columns that some span covers, and 8 is given exactly
--- when after some segment the union needs more than 32 runs. Assumes nothing.
+-- Spans offered one after the other to the fresh board of a row: the board is that of the history of these offers, which accepts all of
+-- them, and 8 is given exactly when after some span the union needs more than 32 runs. Assumes nothing.
 use mathlib.Core.Path.{_≡_, refl, sym, ap, subst, _∙_}
-use mathlib.Core.Logic.{_↔_}
+use mathlib.Core.Logic.{_↔_, _⊎_, inl, inr, ⊎-elim}
 use mathlib.Core.Bool.{Bool, true, false, cond, _||_}
 use mathlib.Core.List.{List, [], _∷_, _++_, append-assoc}
 use Prim.Native.Nat.{_+_, _<_}
 use native.Mathlib.Omega.{arith}
 use borrow.Author.Tests.{eqb-true, eqb-false, eq-eqb}
-use lib.Dec.{eqb}
+use lib.Dec.{eqb, leb}
 use lib.IntN.{ℤ}
 use lib.ListN.{length}
 use Rattle.whole.specs.Number.{Within}
@@ -17,14 +17,14 @@ use Rattle.shapes.specs.declared.Span.{Span}
 use Rattle.shapes.specs.Limits.{cornerLimit, boardRuns}
 use Rattle.board.specs.declared.Board.{Board}
 use Rattle.board.specs.declared.Run.{Run}
-use Rattle.board.specs.Runs.{lit, edge, Ascending}
-use Rattle.board.specs.Boards.{isInside, Offerable, offerRefusal, offered, begun, boardOf, live}
+use Rattle.board.specs.Runs.{edge, Ascending}
+use Rattle.board.specs.Boards.{Sound, isInside, Offerable, withSpan, offerRefusal, offered, begun, boardOf, live}
 use Rattle.board.specs.Histories.{Event, offers, after, reached, accepted, covered, boardAfter, spansAfter, Lights}
-use Rattle.board.proofs.Laws.{true-sound, offered-row}
+use Rattle.board.proofs.Laws.{true-sound, by-length, offered-sound, offered-row}
 use Rattle.board.proofs.Demand.{demand-3, reached-sound}
 use Rattle.route.specs.Rows.{offerAll}
 use Rattle.route.specs.Words.{offering, Crowded}
-use Rattle.route.proofs.Offers.{offer-none, offer-on, offer-stop}
+use Rattle.route.proofs.Offers.{offer-none, offer-on, offer-stop, empty-row, empty-sound}
 
 -- ---- spans offered one after the other, and the history of these offers
 
@@ -80,6 +80,21 @@ all-append b (s ∷ us) vs e =
     let on = then-on b s us taken in
     then-on b s (us ++ vs) taken ∙ all-append (offered b s .board) us vs (ap (λ a. a .refusal) (sym on) ∙ e) ∙ ap (λ a. offerAll (a .board) vs) (sym on)
 
+-- refused at some span, the others are not looked at
+all-stop : (b : Board) (us vs : List Span) → 0 < offerAll b us .refusal → offerAll b (us ++ vs) ≡ offerAll b us
+all-stop b [] vs h = absurd (omega (arith, h, ap (λ a. a .refusal) (offer-none b)))
+all-stop b (s ∷ us) vs h = by (λ more. all-stop (offered b s .board) us vs more) (eqb (offerRefusal b s) 0) refl
+  where
+    by : (0 < offerAll (offered b s .board) us .refusal → offerAll (offered b s .board) (us ++ vs) ≡ offerAll (offered b s .board) us)
+        → (t : Bool) → eqb (offerRefusal b s) 0 ≡ t → offerAll b (s ∷ (us ++ vs)) ≡ offerAll b (s ∷ us)
+    by go true t =
+        let taken = eqb-true (offerRefusal b s) 0 t in
+        let on = then-on b s us taken in
+        then-on b s (us ++ vs) taken ∙ go (omega (arith, h, ap (λ a. a .refusal) on)) ∙ sym on
+    by go false t =
+        let some : 0 < offered b s .refusal = omega (arith, eqb-false (offerRefusal b s) 0 t, refusal-is b s) in
+        offer-stop b s (us ++ vs) some ∙ sym (offer-stop b s us some)
+
 -- ---- from the fresh board of a row
 
 module _ {row : ℤ} (near : Within row cornerLimit) where
@@ -88,10 +103,10 @@ module _ {row : ℤ} (near : Within row cornerLimit) where
   fresh = rw (within-true near)
 
   module _ (us : List Span) (e : offerAll (boardOf row []) us .refusal ≡ 0) where
-    board-is : offerAll (boardOf row []) us .board ≡ boardAfter row (offering us)
+    pub board-is : offerAll (boardOf row []) us .board ≡ boardAfter row (offering us)
     board-is = all-reached (boardOf row []) us e ∙ ap (λ b. reached b (offering us)) (sym fresh)
 
-    covered-is : (x : ℤ) → covered (spansAfter row (offering us)) x ≡ covered us x
+    pub covered-is : (x : ℤ) → covered (spansAfter row (offering us)) x ≡ covered us x
     unfolding covered
     covered-is x = ap (λ b. covered (accepted b [] (offering us)) x) fresh ∙ all-accepted (boardOf row []) [] us e x ∙ or-none (covered us x)
       where
@@ -99,11 +114,7 @@ module _ {row : ℤ} (near : Within row cornerLimit) where
         or-none true = refl
         or-none false = refl
 
-    -- the runs light just the columns that some span covers
-    pub lights : Lights (live (offerAll (boardOf row []) us .board)) (covered us)
-    lights x = ap (λ b. lit (live b) x) board-is ∙ demand-3 row near (offering us) .exact x ∙ covered-is x
-
--- ---- 8 exactly when after some segment the union needs more than 32 runs
+-- ---- 8 exactly when after some span the union needs more than 32 runs
 
 -- spans of a row whose columns are all inside
 abbrev pub Fit : ℤ → Span → Type 0
@@ -116,6 +127,31 @@ AllFit row (s ∷ ss) = Fit row s × AllFit row ss
 fit-at : (row : ℤ) (us : List Span) (s : Span) (vs : List Span) → AllFit row (us ++ (s ∷ vs)) → Fit row s
 fit-at row [] s vs f = f .0
 fit-at row (u ∷ us) s vs f = fit-at row us s vs (f .1)
+
+fit-before : (row : ℤ) (us vs : List Span) → AllFit row (us ++ vs) → AllFit row us
+fit-before row [] vs f = tt
+fit-before row (u ∷ us) vs f = (f .0, fit-before row us vs (f .1))
+
+-- a sound board takes spans that fit, or has no room for one of them
+pub room-or-not : {row : ℤ} (b : Board) (ss : List Span) → Sound b → b .row ≡ row → AllFit row ss → (offerAll b ss .refusal ≡ 0) ⊎ (offerAll b ss .refusal ≡ 8)
+room-or-not b [] sound same fit = inl (ap (λ a. a .refusal) (offer-none b))
+room-or-not b (s ∷ ss) sound same fit = by (room-or-not (offered b s .board) ss (offered-sound s sound) (offered-row b s ∙ same) (fit .1)) (eqb (offerRefusal b s) 0) refl
+  where
+    o : Offerable b s
+    o = record { sound = sound; same-row = fit .0 .0 ∙ sym same; inside = fit .0 .1 }
+
+    eight : (t : Bool) → offerRefusal b s ≡ cond t 0 8 → (offerRefusal b s ≡ 0 → ⊥) → offerRefusal b s ≡ 8
+    eight true e some = absurd (some e)
+    eight false e some = e
+
+    by : (offerAll (offered b s .board) ss .refusal ≡ 0) ⊎ (offerAll (offered b s .board) ss .refusal ≡ 8) → (t : Bool) → eqb (offerRefusal b s) 0 ≡ t
+        → (offerAll b (s ∷ ss) .refusal ≡ 0) ⊎ (offerAll b (s ∷ ss) .refusal ≡ 8)
+    by rest true t = rw (then-on b s ss (eqb-true (offerRefusal b s) 0 t)) rest
+    by rest false t =
+        let other = eqb-false (offerRefusal b s) 0 t in
+        let some : 0 < offered b s .refusal = omega (arith, other, refusal-is b s) in
+        let full = eight (leb (length (withSpan s (live b))) boardRuns) (by-length o) other in
+        inr (ap (λ a. a .refusal) (offer-stop b s ss some) ∙ refusal-is b s ∙ full)
 
 row-kept : (b : Board) (ss : List Span) → offerAll b ss .refusal ≡ 0 → offerAll b ss .board .row ≡ b .row
 row-kept b [] e = ap (λ a. a .board .row) (offer-none b)
@@ -151,18 +187,18 @@ module _ {row : ℤ} (near : Within row cornerLimit) where
   abbrev drawn : List Span → Board
   drawn us = offerAll (boardOf row []) us .board
 
-  crowded-from : (us ss : List Span) → offerAll (boardOf row []) us .refusal ≡ 0 → AllFit row ss → offerAll (drawn us) ss .refusal ≡ 8 → Crowded row (us ++ ss)
+  crowded-from : (us ss : List Span) → offerAll (boardOf row []) us .refusal ≡ 0 → AllFit row ss → offerAll (drawn us) ss .refusal ≡ 8 → Crowded (us ++ ss)
   crowded-from us [] e f eight = absurd (omega (arith, eight, ap (λ a. a .refusal) (offer-none (drawn us))))
   crowded-from us (s ∷ ss) e f eight = by (λ longer rest. crowded-from (us ++ (s ∷ [])) ss longer (f .1) rest) (eqb (offerRefusal (drawn us) s) 0) refl
     where
-      by : (offerAll (boardOf row []) (us ++ (s ∷ [])) .refusal ≡ 0 → offerAll (drawn (us ++ (s ∷ []))) ss .refusal ≡ 8 → Crowded row ((us ++ (s ∷ [])) ++ ss))
-          → (t : Bool) → eqb (offerRefusal (drawn us) s) 0 ≡ t → Crowded row (us ++ (s ∷ ss))
+      by : (offerAll (boardOf row []) (us ++ (s ∷ [])) .refusal ≡ 0 → offerAll (drawn (us ++ (s ∷ []))) ss .refusal ≡ 8 → Crowded ((us ++ (s ∷ [])) ++ ss))
+          → (t : Bool) → eqb (offerRefusal (drawn us) s) 0 ≡ t → Crowded (us ++ (s ∷ ss))
       by go true t =
           let taken = eqb-true (offerRefusal (drawn us) s) 0 t in
           let more = all-append (boardOf row []) us (s ∷ []) e ∙ then-on (drawn us) s [] taken ∙ offer-none (offered (drawn us) s .board) in
           let longer = ap (λ a. a .refusal) more in
           let rest = ap (λ a. offerAll (a .board) ss .refusal) more ∙ ap (λ a. a .refusal) (sym (then-on (drawn us) s ss taken)) ∙ eight in
-          subst (Crowded row) (append-assoc us (s ∷ []) ss) (go longer rest)
+          subst Crowded (append-assoc us (s ∷ []) ss) (go longer rest)
       by go false t =
           let some : 0 < offered (drawn us) s .refusal = omega (arith, eqb-false (offerRefusal (drawn us) s) 0 t, refusal-is (drawn us) s) in
           let full = sym (refusal-is (drawn us) s) ∙ ap (λ a. a .refusal) (sym (offer-stop (drawn us) s ss some)) ∙ eight in
@@ -171,20 +207,36 @@ module _ {row : ℤ} (near : Within row cornerLimit) where
             span = s;
             later = ss;
             split = refl;
-            accepted = e;
             needs = eight-needs us e s (f .0) (ap (λ d. offerRefusal d s) (sym (board-is near us e)) ∙ full);
           }
 
-  pub eight-exactly : (ss : List Span) → AllFit row ss → (offerAll (boardOf row []) ss .refusal ≡ 8) ↔ Crowded row ss
-  eight-exactly ss f = (λ e. crowded-from [] ss (ap (λ a. a .refusal) (offer-none (boardOf row []))) f (ap (λ a. offerAll (a .board) ss .refusal) (offer-none (boardOf row [])) ∙ e), crowded-eight)
-    where
-      crowded-eight : Crowded row ss → offerAll (boardOf row []) ss .refusal ≡ 8
-      crowded-eight c =
-          let us = c .before in
-          let all = rw (c .split) at f in
-          let d = offerAll (boardOf row []) us .board in
-          let full = ap (λ b. offerRefusal b (c .span)) (board-is near us (c .accepted)) ∙ needs-eight us (c .accepted) (c .span) (fit-at row us (c .span) (c .later) all) (c .needs) in
-          let some : 0 < offered d (c .span) .refusal = omega (arith, refusal-is d (c .span), full) in
-          ap (λ l. offerAll (boardOf row []) l .refusal) (c .split)
-          ∙ ap (λ a. a .refusal) (all-append (boardOf row []) us (c .span ∷ c .later) (c .accepted) ∙ offer-stop d (c .span) (c .later) some)
-          ∙ refusal-is d (c .span) ∙ full
+  module _ (ss : List Span) (f : AllFit row ss) (c : Crowded ss) where
+    abbrev empty : Board
+    empty = boardOf row []
+
+    all-fit : AllFit row (c .before ++ (c .span ∷ c .later))
+    all-fit = rw (c .split) at f
+
+    -- those before it were accepted, and it is refused; or one of them was refused
+    refused-here : offerAll empty (c .before) .refusal ≡ 0 → offerAll empty (c .before ++ (c .span ∷ c .later)) .refusal ≡ 8
+    refused-here e =
+        let d = offerAll empty (c .before) .board in
+        let fit = fit-at row (c .before) (c .span) (c .later) all-fit in
+        let full = ap (λ b. offerRefusal b (c .span)) (board-is near (c .before) e) ∙ needs-eight (c .before) e (c .span) fit (c .needs) in
+        let some : 0 < offered d (c .span) .refusal = omega (arith, refusal-is d (c .span), full) in
+        ap (λ a. a .refusal) (all-append empty (c .before) (c .span ∷ c .later) e ∙ offer-stop d (c .span) (c .later) some) ∙ refusal-is d (c .span) ∙ full
+
+    refused-sooner : offerAll empty (c .before) .refusal ≡ 8 → offerAll empty (c .before ++ (c .span ∷ c .later)) .refusal ≡ 8
+    refused-sooner e = ap (λ a. a .refusal) (all-stop empty (c .before) (c .span ∷ c .later) (omega (arith, e))) ∙ e
+
+    crowded-eight : offerAll empty ss .refusal ≡ 8
+    crowded-eight =
+        ap (λ l. offerAll empty l .refusal) (c .split)
+        ∙ ⊎-elim refused-here refused-sooner (room-or-not empty (c .before) (empty-sound near) (empty-row row) (fit-before row (c .before) (c .span ∷ c .later) all-fit))
+
+  pub eight-exactly : (ss : List Span) → AllFit row ss → (offerAll (boardOf row []) ss .refusal ≡ 8) ↔ Crowded ss
+  eight-exactly ss f =
+      let none = offer-none (boardOf row []) in (
+        λ e. crowded-from [] ss (ap (λ a. a .refusal) none) f (ap (λ a. offerAll (a .board) ss .refusal) none ∙ e),
+        λ c. crowded-eight ss f c,
+      )

@@ -6,3 +6,5 @@ pub mod Drawn
 pub mod Laws
 pub mod Ranges
 pub mod Refused
+pub mod Told
+pub mod AllRows

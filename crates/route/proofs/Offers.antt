@@ -61,5 +61,9 @@ module _ (b : Board) (s : Span) (ss : List Span) where
   offer-stop h = rw (ne-eqb (offered b s .refusal) 0 (λ e. omega (arith, e)))
 
 -- a fresh board
+pub empty-row : (row : ℤ) → boardOf row [] .row ≡ row
+unfolding boardOf
+empty-row row = refl
+
 pub empty-sound : {row : ℤ} → Within row cornerLimit → Sound (boardOf row [])
 empty-sound near = sound-of near (lit≤ tt) none

@@ -135,6 +135,30 @@ module _ {rows : RowRange} (near : RowsNear rows) where
           let n = none-below height-above in
           record { bound = abs-le (rows .first +ℤ pos i) (omega (arith, a, b, d, e, f, o, p, q, r, n)) (omega (arith, a, b, d, e, f, o, p, q, r, n)) }
 
+  -- it does, and every row between them is at a place
+  pub row-between : rows .some ≡ true → {i : ℕ} → i < rowCount rows → (rows .first ≤ℤ rowAt rows i) × (rowAt rows i ≤ℤ rows .last)
+  unfolding rowCount rowAt
+  row-between some {i} h =
+      let few : i < natAbs height = rw some at h in
+      let d = diff (rows .last) (rows .first) in
+      let e = sum (rows .last -ℤ rows .first) (pos 1) in
+      let f = sum (rows .first) (pos i) in
+      let r = abs-parts height in
+      let n = none-below height-above in
+      (omega (linear, f), omega (linear, few, d, e, f, r, n))
+
+  pub place-of : rows .some ≡ true → {y : ℤ} → rows .first ≤ℤ y → y ≤ℤ rows .last → (natAbs (y -ℤ rows .first) < rowCount rows) × (rowAt rows (natAbs (y -ℤ rows .first)) ≡ y)
+  unfolding rowCount rowAt
+  place-of some {y} low high =
+      let i = natAbs (y -ℤ rows .first) in
+      let a = abs-parts (y -ℤ rows .first) in
+      let b = diff y (rows .first) in
+      let c = none-below {z = y -ℤ rows .first} (omega (linear, b, low)) in
+      let d = diff (rows .last) (rows .first) in
+      let e = sum (rows .last -ℤ rows .first) (pos 1) in
+      let few : i < natAbs height = omega (linear, a, b, c, d, e, high, abs-parts height, none-below height-above) in
+      (rw some few, omega (linear, a, b, c, sum (rows .first) (pos i)))
+
 -- ---- how many rows there are
 
 pub count-some : (rows : RowRange) → rows .some ≡ true → rowCount rows ≡ natAbs ((rows .last -ℤ rows .first) +ℤ pos 1)

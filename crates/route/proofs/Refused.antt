@@ -1,36 +1,39 @@
--- Refusals of a route and of its row, each exactly when 01's table says, in its order. Assumes nothing.
+-- Refusals of a route, of its row and of the row's entry, each exactly when 01's table says, in its order. Assumes nothing.
 use mathlib.Core.Path.{_≡_, refl, sym, ap, _∙_}
-use mathlib.Core.Logic.{_↔_, _⊎_, inl, inr, ⊎-elim}
+use mathlib.Core.Logic.{_↔_, _≢_, _⊎_, inl, inr, ⊎-elim}
 use mathlib.Core.Bool.{Bool, true, false, cond}
-use mathlib.Core.List.{List, [], _∷_}
-use Prim.Native.Nat.{ℕ, _<_}
+use mathlib.Core.List.{List, []}
+use Prim.Native.Nat.{ℕ, _*_, _≤_, _<_}
 use native.Mathlib.Omega.{arith}
-use borrow.Author.Tests.{eqb-true, eqb-false}
+use borrow.Author.Tests.{eqb-true, eqb-false, eq-eqb, ne-eqb, leb-true, leb-false}
 use lib.Dec.{eqb, leb}
 use lib.IntN.{ℤ, pos}
 use lib.ListN.{length}
 use Rattle.whole.specs.Number.{Within, isWithin}
 use Rattle.whole.proofs.Laws.{within-iff}
+use Rattle.whole.proofs.Linear.{le-or-lt}
 use Rattle.whole.proofs.Tests.{passed, eqb-iff, never, bad-first, good-first, good-later}
-use Rattle.shapes.specs.Limits.{pointLimit, cornerLimit, boardRuns}
-use Rattle.shapes.specs.declared.Span.{Span}
+use Rattle.shapes.specs.Limits.{pointLimit, cornerLimit}
 use Rattle.line_join.specs.Caps.{JoinNear}
+use Rattle.board.specs.declared.Answer.{Answer}
 use Rattle.board.specs.declared.Board.{Board}
 use Rattle.board.specs.declared.Listed.{Listed}
+use Rattle.board.specs.declared.Run.{Run}
 use Rattle.board.specs.Runs.{total}
-use Rattle.board.specs.Boards.{Sound, Offerable, offered, withSpan, boardOf, live, listed, listRefusal}
-use Rattle.board.proofs.Laws.{by-length, offered-sound, offered-row}
+use Rattle.board.specs.Boards.{isSound, boardOf, live, listed, listRefusal}
+use Rattle.board.specs.Histories.{boardAfter}
+use Rattle.board.proofs.Demand.{reached-sound}
 use Rattle.coordinates.specs.Refusal.{routeRefusal, Accepted}
 use Rattle.coordinates.proofs.Laws.{accepted-exactly, refused-most}
 use Rattle.route_joins.specs.Joins.{joinAt, joinCount, areJoinsNear}
 use Rattle.route_joins.proofs.Near.{joins-exactly}
 use Rattle.route.specs.Joined.{joinsOf}
-use Rattle.route.specs.Rows.{boardOn, offerAll}
-use Rattle.route.specs.Words.{spansOn, Crowded}
-use Rattle.route.specs.Answers.{drawRefusal, rowRefusal, notListed, rowAnswer}
-use Rattle.route.proofs.Offers.{offer-none, offer-on, offer-stop, empty-sound}
-use Rattle.route.proofs.Laws.{AllFit, refusal-is}
-use Rattle.route.proofs.Drawn.{row-draws, row-eight, spans-all-fit}
+use Rattle.route.specs.Rows.{boardOn}
+use Rattle.route.specs.Words.{spansOn, offering, Crowded}
+use Rattle.route.specs.Answers.{drawRefusal, rowRefusal, rowAnswer}
+use Rattle.route.proofs.Offers.{empty-row, empty-sound}
+use Rattle.route.proofs.Laws.{room-or-not}
+use Rattle.route.proofs.Drawn.{row-draws, row-reached, row-eight, spans-all-fit}
 
 -- ---- 1 to 5
 
@@ -80,68 +83,43 @@ module _ (closed : Bool) (cs : List ℤ) (w : ℤ) where
   unfolding drawRefusal
   draw-most h = never (eqb n 0) (never (areJoinsNear cornerLimit closed cs w) (λ e. omega (arith, e)) (λ e. omega (arith, e))) (refused-most pointLimit closed cs w (omega arith))
 
--- ---- a row has room, or not
-
-begins : (row : ℤ) → boardOf row [] .row ≡ row
-unfolding boardOf
-begins row = refl
-
-all-room : {row : ℤ} (b : Board) (ss : List Span) → Sound b → b .row ≡ row → AllFit row ss → {m : ℕ} → (0 ≡ m → ⊥) → (8 ≡ m → ⊥) → offerAll b ss .refusal ≡ m → ⊥
-all-room b [] sound same fit zero eight e = zero (ap (λ a. a .refusal) (sym (offer-none b)) ∙ e)
-all-room {row} b (s ∷ ss) sound same fit {m} zero eight e = by (λ h. all-room (offered b s .board) ss (offered-sound s sound) (offered-row b s ∙ same) (fit .1) zero eight h) (eqb (offered b s .refusal) 0) refl
-  where
-    o : Offerable b s
-    o = record { sound = sound; same-row = fit .0 .0 ∙ sym same; inside = fit .0 .1 }
-
-    said : offered b s .refusal ≡ cond (leb (length (withSpan s (live b))) boardRuns) 0 8
-    said = refusal-is b s ∙ by-length o
-
-    by : (offerAll (offered b s .board) ss .refusal ≡ m → ⊥) → (t : Bool) → eqb (offered b s .refusal) 0 ≡ t → ⊥
-    by go true f = let none = eqb-true (offered b s .refusal) 0 f in go (ap (λ a. a .refusal) (sym (offer-on b s ss (omega (arith, none)))) ∙ e)
-    by go false f =
-        let some : 0 < offered b s .refusal = omega (arith, eqb-false (offered b s .refusal) 0 f) in
-        never (leb (length (withSpan s (live b))) boardRuns) zero eight (sym said ∙ ap (λ a. a .refusal) (sym (offer-stop b s ss some)) ∙ e)
-
-list-refusal : (b : Board) (len : ℕ) → listed b len .refusal ≡ listRefusal b len
-unfolding listed
-list-refusal b len = by (listRefusal b len) (eqb (listRefusal b len) 0) refl
-  where
-    by : (r : ℕ) (t : Bool) → eqb r 0 ≡ t → cond {A = Listed} t (record { refusal = 0; count = length (live b); total = total (live b) }) (record { refusal = r; count = 0; total = pos 0 }) .refusal ≡ r
-    by r true e = sym (eqb-true r 0 e)
-    by r false e = refl
-
 -- ---- a route's row: 1 to 5 as the route, then 6 exactly when the row is outside, then 8 exactly when it has no room
 
 module _ (closed : Bool) (cs : List ℤ) (w : ℤ) (row : ℤ) where
   abbrev d : ℕ
   d = drawRefusal closed cs w
 
-  abbrev room : ℕ
-  room = boardOn (joinsOf closed cs w) row .refusal
+  abbrev drawn : Answer
+  drawn = boardOn (joinsOf closed cs w) row
 
-  other-room : d ≡ 0 → Within row cornerLimit → {m : ℕ} → (0 ≡ m → ⊥) → (8 ≡ m → ⊥) → room ≡ m → ⊥
-  other-room none inside zero eight e =
+  abbrev chain : Bool → Bool → ℕ
+  chain t u = cond t (cond u (drawn .refusal) 6) d
+
+  pub room-or-full : d ≡ 0 → Within row cornerLimit → (drawn .refusal ≡ 0) ⊎ (drawn .refusal ≡ 8)
+  room-or-full none inside =
       let a = draw-none closed cs w .0 none in
       let near = joins-exactly cornerLimit closed cs w .1 (a .1) in
-      all-room (boardOf row []) (spansOn closed cs w row) (empty-sound inside) (begins row) (spans-all-fit (a .0) near row) zero eight (ap (λ b. b .refusal) (sym (row-draws (a .0) near row)) ∙ e)
+      rw (row-draws (a .0) near row) (room-or-not (boardOf row []) (spansOn closed cs w row) (empty-sound inside) (empty-row row) (spans-all-fit (a .0) near row))
+
+  other-room : d ≡ 0 → Within row cornerLimit → {m : ℕ} → (0 ≡ m → ⊥) → (8 ≡ m → ⊥) → drawn .refusal ≡ m → ⊥
+  other-room none inside zero eight e = ⊎-elim (λ z. zero (sym z ∙ e)) (λ z. eight (sym z ∙ e)) (room-or-full none inside)
 
   pub row-six : (rowRefusal closed cs w row ≡ 6) ↔ ((d ≡ 0) × (Within row cornerLimit → ⊥))
   unfolding rowRefusal
   row-six = by (eqb d 0) refl (isWithin cornerLimit row) refl
     where
-      by : (t : Bool) → eqb d 0 ≡ t → (u : Bool) → isWithin cornerLimit row ≡ u → (cond t (cond u room 6) d ≡ 6) ↔ ((d ≡ 0) × (Within row cornerLimit → ⊥))
+      by : (t : Bool) → eqb d 0 ≡ t → (u : Bool) → isWithin cornerLimit row ≡ u → (chain t u ≡ 6) ↔ ((d ≡ 0) × (Within row cornerLimit → ⊥))
       by true e true f =
           let inside = within-iff cornerLimit row .0 f in
           (λ h. absurd (other-room (eqb-true d 0 e) inside (λ z. omega (arith, z)) (λ z. omega (arith, z)) h), λ h. absurd (h .1 inside))
       by true e false f = (λ h. (eqb-true d 0 e, λ inside. passed false (sym f ∙ within-iff cornerLimit row .1 inside)), λ h. refl)
       by false e u f = (λ h. absurd (draw-most closed cs w (omega arith) h), λ h. absurd (eqb-false d 0 e (h .0)))
 
-  pub row-eight-exactly : (rowRefusal closed cs w row ≡ 8) ↔ ((d ≡ 0) × (Within row cornerLimit × Crowded row (spansOn closed cs w row)))
+  pub row-eight-exactly : (rowRefusal closed cs w row ≡ 8) ↔ ((d ≡ 0) × (Within row cornerLimit × Crowded (spansOn closed cs w row)))
   unfolding rowRefusal
   row-eight-exactly = by (eqb d 0) refl (isWithin cornerLimit row) refl
     where
-      by : (t : Bool) → eqb d 0 ≡ t → (u : Bool) → isWithin cornerLimit row ≡ u
-          → (cond t (cond u room 6) d ≡ 8) ↔ ((d ≡ 0) × (Within row cornerLimit × Crowded row (spansOn closed cs w row)))
+      by : (t : Bool) → eqb d 0 ≡ t → (u : Bool) → isWithin cornerLimit row ≡ u → (chain t u ≡ 8) ↔ ((d ≡ 0) × (Within row cornerLimit × Crowded (spansOn closed cs w row)))
       by true e true f =
           let inside = within-iff cornerLimit row .0 f in
           let none = eqb-true d 0 e in
@@ -151,30 +129,105 @@ module _ (closed : Bool) (cs : List ℤ) (w : ℤ) (row : ℤ) where
       by true e false f = (λ h. absurd (omega (arith, h)), λ h. absurd (passed false (sym f ∙ within-iff cornerLimit row .1 (h .1 .0))))
       by false e u f = (λ h. absurd (draw-most closed cs w (omega arith) h), λ h. absurd (eqb-false d 0 e (h .0)))
 
-  -- 1 to 5 exactly when the route is refused with it
-  pub row-before : {m : ℕ} → 0 < m → m < 6 → (rowRefusal closed cs w row ≡ m) ↔ (d ≡ m)
+  -- any other number exactly when the route is refused with it: 1 to 5
+  pub row-before : {m : ℕ} → 0 < m → m ≢ 6 → m ≢ 8 → (rowRefusal closed cs w row ≡ m) ↔ (d ≡ m)
   unfolding rowRefusal
-  row-before {m} some few = by (eqb d 0) refl (isWithin cornerLimit row) refl
+  row-before {m} some six eight = by (eqb d 0) refl (isWithin cornerLimit row) refl
     where
-      by : (t : Bool) → eqb d 0 ≡ t → (u : Bool) → isWithin cornerLimit row ≡ u → (cond t (cond u room 6) d ≡ m) ↔ (d ≡ m)
+      by : (t : Bool) → eqb d 0 ≡ t → (u : Bool) → isWithin cornerLimit row ≡ u → (chain t u ≡ m) ↔ (d ≡ m)
       by true e true f =
           let none = eqb-true d 0 e in (
-            λ h. absurd (other-room none (within-iff cornerLimit row .0 f) (λ z. omega (arith, z)) (λ z. omega (arith, z)) h),
-            λ h. absurd (omega (arith, none, h)),
+            λ h. absurd (other-room none (within-iff cornerLimit row .0 f) (λ z. omega (arith, some, z)) (λ z. eight (sym z)) h),
+            λ h. absurd (omega (arith, some, none, h)),
           )
-      by true e false f = let none = eqb-true d 0 e in (λ h. absurd (omega (arith, h)), λ h. absurd (omega (arith, none, h)))
+      by true e false f = let none = eqb-true d 0 e in (λ h. absurd (six (sym h)), λ h. absurd (omega (arith, some, none, h)))
       by false e u f = (λ h. h, λ h. h)
 
-  -- the entry's 8: the row has no room on the way, or the list has fewer than two numbers for each of its runs
-  pub answer-eight : (len : ℕ) → (rowAnswer closed cs w row len .refusal ≡ 8) ↔ ((rowRefusal closed cs w row ≡ 8) ⊎ ((rowRefusal closed cs w row ≡ 0) × (listRefusal (boardOn (joinsOf closed cs w) row .board) len ≡ 8)))
-  unfolding rowAnswer
-  answer-eight len = by (rowRefusal closed cs w row) (eqb (rowRefusal closed cs w row) 0) refl
+  -- not refused: the route is not, the row is inside, and its board has room
+  pub row-none : rowRefusal closed cs w row ≡ 0 → (d ≡ 0) × (Within row cornerLimit × (drawn .refusal ≡ 0))
+  unfolding rowRefusal
+  row-none = by (eqb d 0) refl (isWithin cornerLimit row) refl
     where
-      by : (r : ℕ) (t : Bool) → eqb r 0 ≡ t
-          → (cond t (listed (boardOn (joinsOf closed cs w) row .board) len) (notListed r) .refusal ≡ 8) ↔ ((r ≡ 8) ⊎ ((r ≡ 0) × (listRefusal (boardOn (joinsOf closed cs w) row .board) len ≡ 8)))
-      by r true e =
-          let none = eqb-true r 0 e in (
-            λ h. inr (none, sym (list-refusal (boardOn (joinsOf closed cs w) row .board) len) ∙ h),
-            λ h. ⊎-elim (λ z. absurd (omega (arith, none, z))) (λ z. list-refusal (boardOn (joinsOf closed cs w) row .board) len ∙ z .1) h,
+      by : (t : Bool) → eqb d 0 ≡ t → (u : Bool) → isWithin cornerLimit row ≡ u → chain t u ≡ 0 → (d ≡ 0) × (Within row cornerLimit × (drawn .refusal ≡ 0))
+      by true e true f h = (eqb-true d 0 e, (within-iff cornerLimit row .0 f, h))
+      by true e false f h = absurd (omega (arith, h))
+      by false e u f h = absurd (eqb-false d 0 e h)
+
+  pub none-reached : rowRefusal closed cs w row ≡ 0 → drawn .board ≡ boardAfter row (offering (spansOn closed cs w row))
+  none-reached e =
+      let z = row-none e in
+      let a = draw-none closed cs w .0 (z .0) in
+      row-reached (a .0) (joins-exactly cornerLimit closed cs w .1 (a .1)) (z .1 .0) (z .1 .1)
+
+-- ---- the entry: the same, and 8 as well where the list has fewer than two numbers for each of the final runs
+
+pub list-refusal : (b : Board) (len : ℕ) → listed b len .refusal ≡ listRefusal b len
+unfolding listed
+list-refusal b len = by (listRefusal b len) (eqb (listRefusal b len) 0) refl
+  where
+    by : (r : ℕ) (t : Bool) → eqb r 0 ≡ t → cond {A = Listed} t (record { refusal = 0; count = length (live b); total = total (live b) }) (record { refusal = r; count = 0; total = pos 0 }) .refusal ≡ r
+    by r true e = sym (eqb-true r 0 e)
+    by r false e = refl
+
+module _ (closed : Bool) (cs : List ℤ) (w row : ℤ) (len : ℕ) where
+  abbrev r : ℕ
+  r = rowRefusal closed cs w row
+
+  -- the runs of the row
+  abbrev runs : List Run
+  runs = live (boardOn (joinsOf closed cs w) row .board)
+
+  abbrev a : ℕ
+  a = rowAnswer closed cs w row len .refusal
+
+  answer-refused : 0 < r → rowAnswer closed cs w row len .refusal ≡ r
+  unfolding rowAnswer
+  answer-refused some = rw (ne-eqb r 0 (λ e. omega (arith, some, e)))
+
+  answer-listed : r ≡ 0 → rowAnswer closed cs w row len .refusal ≡ cond (leb (2 * length runs) len) 0 8
+  unfolding rowAnswer listRefusal
+  answer-listed none =
+      let sound : isSound (boardOn (joinsOf closed cs w) row .board) ≡ true = ap isSound (none-reached closed cs w row none) ∙ reached-sound row (row-none closed cs w row none .1 .0) (offering (spansOn closed cs w row)) in
+      rw (eq-eqb r 0 none) (list-refusal (boardOn (joinsOf closed cs w) row .board) len ∙ rw sound)
+
+  room-exactly : (t : Bool) → leb (2 * length runs) len ≡ t → (cond {A = ℕ} t 0 8 ≡ 8) ↔ (len < 2 * length runs)
+  room-exactly true e = (λ h. absurd (omega (arith, h)), λ h. absurd (omega (arith, h, leb-true (2 * length runs) len e)))
+  room-exactly false e = (λ h. leb-false (2 * length runs) len e, λ h. refl)
+
+  pub answer-eight : (a ≡ 8) ↔ ((r ≡ 8) ⊎ ((r ≡ 0) × (len < 2 * length runs)))
+  answer-eight = ⊎-elim free stopped (le-or-lt r 0)
+    where
+      free : r ≤ 0 → (a ≡ 8) ↔ ((r ≡ 8) ⊎ ((r ≡ 0) × (len < 2 * length runs)))
+      free h =
+          let none : r ≡ 0 = omega (arith, h) in
+          let is = answer-listed none in
+          let short = room-exactly (leb (2 * length runs) len) refl in
+          (λ e. inr (none, short .0 (sym is ∙ e)), λ e. ⊎-elim (λ z. absurd (omega (arith, none, z))) (λ z. is ∙ short .1 (z .1)) e)
+
+      stopped : 0 < r → (a ≡ 8) ↔ ((r ≡ 8) ⊎ ((r ≡ 0) × (len < 2 * length runs)))
+      stopped h = let is = answer-refused h in (λ e. inl (sym is ∙ e), λ e. ⊎-elim (λ z. is ∙ z) (λ z. absurd (omega (arith, h, z .0))) e)
+
+  pub answer-before : {m : ℕ} → 0 < m → m ≢ 8 → (a ≡ m) ↔ (r ≡ m)
+  answer-before {m} some eight = ⊎-elim free stopped (le-or-lt r 0)
+    where
+      free : r ≤ 0 → (a ≡ m) ↔ (r ≡ m)
+      free h =
+          let none : r ≡ 0 = omega (arith, h) in (
+            λ e. absurd (never (leb (2 * length runs) len) (λ z. omega (arith, some, z)) (λ z. eight (sym z)) (sym (answer-listed none) ∙ e)),
+            λ e. absurd (omega (arith, some, none, e)),
           )
-      by r false e = (λ h. inl h, λ h. ⊎-elim (λ z. z) (λ z. absurd (eqb-false r 0 e (z .0))) h)
+
+      stopped : 0 < r → (a ≡ m) ↔ (r ≡ m)
+      stopped h = let is = answer-refused h in (λ e. sym is ∙ e, λ e. is ∙ e)
+
+  pub answer-none : a ≡ 0 → (r ≡ 0) × (2 * length runs ≤ len)
+  answer-none e = ⊎-elim free (λ h. absurd (omega (arith, h, e, answer-refused h))) (le-or-lt r 0)
+    where
+      enough : (t : Bool) → leb (2 * length runs) len ≡ t → cond {A = ℕ} t 0 8 ≡ 0 → 2 * length runs ≤ len
+      enough true f h = leb-true (2 * length runs) len f
+      enough false f h = absurd (omega (arith, h))
+
+      free : r ≤ 0 → (r ≡ 0) × (2 * length runs ≤ len)
+      free h =
+          let none : r ≡ 0 = omega (arith, h) in
+          (none, enough (leb (2 * length runs) len) refl (sym (answer-listed none) ∙ e))

@@ -1,10 +1,10 @@
-use Rattle.route.specs.Rows.{rowsRefusal}
-use Rattle.route.proofs.Ranges.{rows-near}
-use Rattle.route.proofs.Chains.{ready, refused-with, whole-refused, whole-made}
 -- `route::refusal` meets its contract. Assumes nothing.
 use mathlib.Core.Path.{_≡_, ap, _∙_}
 use mir.Facts.{toZ-ofZ}
 use Rattle.route.specs.Answers.{preparedOf}
+use Rattle.route.specs.Rows.{rowsRefusal}
+use Rattle.route.proofs.Ranges.{rows-near}
+use Rattle.route.proofs.Chains.{ready, refused-with, whole-refused, whole-made}
 use borrow.Author.Needs.{needs}
 use Rattle.route.proofs.refusal.Statement.{statement}
 use Rattle.route.proofs.refusal.Tie as tie

@@ -1,14 +1,14 @@
+-- `route::row` meets its contract. Assumes nothing.
+use mathlib.Core.Path.{_≡_, sym, ap, _∙_}
+use lib.Dec.{lit<}
+use mir.Facts.{toZ-ofZ}
+use Rattle.route.specs.Answers.{preparedOf, rowRefusal}
 use Rattle.whole.specs.Number.{isWithin}
 use Rattle.whole.proofs.Laws.{true-within}
 use Rattle.shapes.specs.Limits.{cornerLimit}
 use Rattle.route.specs.Joined.{joinsOf}
 use Rattle.route.specs.Rows.{boardOn}
 use Rattle.route.proofs.Chains.{Ready, ready, refused-with, refused-before, refused-outside, refused-board, row-refused, row-listed}
--- `route::row` meets its contract. Assumes nothing.
-use mathlib.Core.Path.{_≡_, sym, ap, _∙_}
-use lib.Dec.{lit<}
-use mir.Facts.{toZ-ofZ}
-use Rattle.route.specs.Answers.{preparedOf, rowRefusal}
 use borrow.Author.Needs.{needs}
 use Rattle.route.proofs.row.Statement.{statement}
 use Rattle.route.proofs.row.Tie as tie

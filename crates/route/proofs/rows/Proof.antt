@@ -1,8 +1,8 @@
-use Rattle.route.proofs.Chains.{ready, refused-with, rows-refused, rows-made}
 -- `route::rows` meets its contract. Assumes nothing.
 use mathlib.Core.Path.{_≡_, ap, _∙_}
 use mir.Facts.{toZ-ofZ}
 use Rattle.route.specs.Answers.{preparedOf}
+use Rattle.route.proofs.Chains.{ready, refused-with, rows-refused, rows-made}
 use borrow.Author.Needs.{needs}
 use Rattle.route.proofs.rows.Statement.{statement}
 use Rattle.route.proofs.rows.Tie as tie

@@ -1,6 +1,3 @@
-use mir.Syntax.{w64}
-use Rattle.whole.specs.Number.{lesser, greater}
-use Rattle.whole.proofs.Spans.{of-bits}
 -- `route::inner::with_box` meets its contract. Assumes nothing.
 use mathlib.Core.Path.{_∙_}
 use mir.Val.{SFits}
@@ -8,6 +5,9 @@ use mir.Facts.{toZ-ofZ}
 use Rattle.thick_segment.specs.declared.Rectangle.{Rectangle}
 use Rattle.route.specs.declared.RowRange.{RowRange}
 use Rattle.route.specs.Rows.{withBox}
+use mir.Syntax.{w64}
+use Rattle.whole.specs.Number.{lesser, greater}
+use Rattle.whole.proofs.Spans.{of-bits}
 use borrow.Author.Needs.{needs}
 use Rattle.route.proofs.inner.with_box.Statement.{statement}
 use Rattle.route.proofs.inner.with_box.Tie as tie
