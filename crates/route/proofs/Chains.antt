@@ -1,10 +1,10 @@
 -- What the entries know of a route once it is prepared. Assumes nothing.
-use mathlib.Core.Path.{_≡_, refl, sym, ap, _∙_}
-use mathlib.Core.Bool.{Bool, true, false, cond}
+use mathlib.Core.Path.{_≡_, sym, ap, _∙_}
+use mathlib.Core.Bool.{Bool, true, false}
 use mathlib.Core.List.{List}
 use Prim.Native.Nat.{ℕ, _≤_, _<_}
 use native.Mathlib.Omega.{arith}
-use borrow.Author.Tests.{eq-eqb, ne-eqb, eqb-true, eqb-false}
+use borrow.Author.Tests.{eq-eqb, ne-eqb}
 use lib.Dec.{eqb}
 use lib.IntN.{ℤ}
 use lib.ListN.{length}
@@ -16,12 +16,14 @@ use Rattle.board.specs.Boards.{listed, listedTo}
 use Rattle.coordinates.specs.Refusal.{routeRefusal}
 use Rattle.coordinates.proofs.Laws.{accepted-exactly}
 use Rattle.route_joins.specs.Joins.{areJoinsNear}
+use Rattle.route_joins.proofs.Near.{joins-exactly}
 use Rattle.route.specs.declared.Joins.{Joins}
 use Rattle.route.specs.declared.Prepared.{Prepared}
 use Rattle.route.specs.Joined.{Kept, joinsOf}
 use Rattle.route.specs.Rows.{boardOn, noRows, rowsIn, rowsRefusal}
 use Rattle.route.specs.Answers.{drawRefusal, noJoins, preparedOf, rowsAnswer, wholeRefusal, rowRefusal, notListed, rowAnswer, rowTo}
 use Rattle.route.proofs.Places.{kept-joins}
+use Rattle.route.proofs.Refused.{draw-none}
 
 module _ (closed : Bool) (cs : List ℤ) (w : ℤ) {n : ℕ} (is : n ≡ routeRefusal pointLimit closed cs w) where
   -- ---- the chain, by its two tests
@@ -67,17 +69,11 @@ pub record Ready (closed : Bool) (cs : List ℤ) (w : ℤ) (js : Joins) : Type 0
 
 module _ (closed : Bool) (cs : List ℤ) (w : ℤ) where
   route-zero : drawRefusal closed cs w ≡ 0 → (routeRefusal pointLimit closed cs w ≡ 0) × (areJoinsNear cornerLimit closed cs w ≡ true)
-  unfolding drawRefusal
-  route-zero = by (routeRefusal pointLimit closed cs w) (eqb (routeRefusal pointLimit closed cs w) 0) refl (areJoinsNear cornerLimit closed cs w)
-    where
-      by : (n : ℕ) (t : Bool) → eqb n 0 ≡ t → (u : Bool) → cond t (cond u 0 5) n ≡ 0 → (n ≡ 0) × (u ≡ true)
-      by n true e true h = (eqb-true n 0 e, refl)
-      by n true e false h = absurd (omega arith)
-      by n false e u h = absurd (eqb-false n 0 e h)
+  route-zero e = let a = draw-none closed cs w .0 e in (accepted-exactly pointLimit closed cs w .1 (a .0), joins-exactly cornerLimit closed cs w .1 (a .1))
 
   -- its joins may be drawn
   pub kept-route : drawRefusal closed cs w ≡ 0 → Kept (joinsOf closed cs w)
-  kept-route e = let zero = route-zero e in kept-joins closed cs w (accepted-exactly pointLimit closed cs w .0 (zero .0) .few) (zero .1)
+  kept-route e = kept-joins closed cs w (draw-none closed cs w .0 e .0 .few) (route-zero e .1)
 
   pub ready : {r : Prepared} → r ≡ preparedOf closed cs w → r .refusal ≤ 0 → Ready closed cs w (r .joins)
   unfolding preparedOf

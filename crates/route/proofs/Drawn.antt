@@ -6,8 +6,6 @@ use mathlib.Core.Bool.{Bool, true, false, cond}
 use mathlib.Core.List.{List, []}
 use Prim.Native.Nat.{ℕ, zero, suc, _+_, _-_, _≤_, _<_}
 use native.Mathlib.Omega.{arith}
-use borrow.Author.Tests.{leb-true, leb-false}
-use lib.Dec.{leb}
 use lib.IntN.{ℤ}
 use lib.ListN.{getD}
 use Rattle.whole.specs.Number.{Within}
@@ -24,20 +22,11 @@ use Rattle.route_joins.specs.Steps.{noJoin}
 use Rattle.route.specs.Joined.{joinsOf, segmentsIn, nextIn, segmentIn}
 use Rattle.route.specs.Rows.{spansFrom, offerAll, boardOn}
 use Rattle.route.specs.Words.{spansOn, offering, Crowded}
-use Rattle.route.proofs.Places.{kept-at, counted, ends-inside, segment-near, kept-joins}
+use Rattle.route.proofs.Places.{count-by, kept-at, counted, ends-inside, segment-near, kept-joins}
 use Rattle.route.proofs.Offers.{span-inside}
 use Rattle.route.proofs.Laws.{AllFit, board-is, covered-is, eight-exactly}
 
 -- ---- counts
-
--- the joins of two points or more are as many as the points; of fewer there are none
-count-by : (cs : List ℤ) → ((2 ≤ pointCount cs) × (joinCount cs ≡ pointCount cs)) ⊎ ((pointCount cs ≤ 1) × (joinCount cs ≡ 0))
-unfolding joinCount
-count-by cs = by (leb 2 (pointCount cs)) refl
-  where
-    by : (t : Bool) → leb 2 (pointCount cs) ≡ t → ((2 ≤ pointCount cs) × (cond t (pointCount cs) 0 ≡ pointCount cs)) ⊎ ((pointCount cs ≤ 1) × (cond t (pointCount cs) 0 ≡ 0))
-    by true e = inl (leb-true 2 (pointCount cs) e, refl)
-    by false e = inr (let low = leb-false 2 (pointCount cs) e in omega arith, refl)
 
 module _ {closed : Bool} {cs : List ℤ} {w : ℤ} (a : Accepted pointLimit closed cs w) where
   pub segments-all : segmentsIn closed (joinCount cs) ≡ segmentCount closed cs

@@ -1,12 +1,13 @@
 -- Lists of joins and of spans by their place, in the form of a loop that goes from the front. Assumes nothing.
 use mathlib.Core.Path.{_≡_, refl, ap, _∙_}
+use mathlib.Core.Logic.{_⊎_, inl, inr, ⊎-elim}
 use mathlib.Core.Bool.{Bool, true, false, _&&_, cond}
 use mathlib.Core.List.{List, _∷_}
 use Prim.Native.Nat.{ℕ, zero, suc, _+_, _-_, _≤_, _<_}
 use native.Mathlib.Nat.{add-zero, zero-add}
 use native.Mathlib.Numerals.{add-one}
 use native.Mathlib.Omega.{arith}
-use borrow.Author.Tests.{leb-true}
+use borrow.Author.Tests.{leb-true, leb-false}
 use lib.Dec.{leb}
 use lib.IntN.{ℤ}
 use lib.ListN.{length, getD, drop, replicate, List·getD-append}
@@ -75,22 +76,20 @@ pub made-of : (closed : Bool) (cs : List ℤ) (w : ℤ) {n : ℕ} {near : Bool} 
 unfolding joinsOf
 made-of closed cs w e f g = rw (g, f, e)
 
--- of one point or none there is no join
-pub counted : (cs : List ℤ) {i : ℕ} → i < joinCount cs → (2 ≤ pointCount cs) × (i < pointCount cs)
+-- the joins of two points or more are as many as the points; of fewer there are none
+pub count-by : (cs : List ℤ) → ((2 ≤ pointCount cs) × (joinCount cs ≡ pointCount cs)) ⊎ ((pointCount cs ≤ 1) × (joinCount cs ≡ 0))
 unfolding joinCount
-counted cs {i} = by (leb 2 (pointCount cs)) refl
+count-by cs = by (leb 2 (pointCount cs)) refl
   where
-    by : (t : Bool) → leb 2 (pointCount cs) ≡ t → i < cond t (pointCount cs) 0 → (2 ≤ pointCount cs) × (i < pointCount cs)
-    by true e h = (leb-true 2 (pointCount cs) e, h)
-    by false e h = absurd (omega arith)
+    by : (t : Bool) → leb 2 (pointCount cs) ≡ t → ((2 ≤ pointCount cs) × (cond t (pointCount cs) 0 ≡ pointCount cs)) ⊎ ((pointCount cs ≤ 1) × (cond t (pointCount cs) 0 ≡ 0))
+    by true e = inl (leb-true 2 (pointCount cs) e, refl)
+    by false e = inr (let low = leb-false 2 (pointCount cs) e in omega arith, refl)
+
+pub counted : (cs : List ℤ) {i : ℕ} → i < joinCount cs → (2 ≤ pointCount cs) × (i < pointCount cs)
+counted cs h = ⊎-elim (λ s. (s .0, omega (arith, h, s .1))) (λ f. absurd (omega (arith, h, f .1))) (count-by cs)
 
 pub count-most : (cs : List ℤ) → joinCount cs ≤ pointCount cs
-unfolding joinCount
-count-most cs = by (leb 2 (pointCount cs))
-  where
-    by : (t : Bool) → cond t (pointCount cs) 0 ≤ pointCount cs
-    by true = omega arith
-    by false = omega arith
+count-most cs = ⊎-elim (λ s. omega (arith, s .1)) (λ f. omega (arith, f .1)) (count-by cs)
 
 -- both joins of a segment are among those that are kept
 pub ends-inside : (closed : Bool) {count k : ℕ} → k < segmentsIn closed count → (k < count) × (nextIn closed count k < count)

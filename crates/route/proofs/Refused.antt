@@ -187,7 +187,9 @@ module _ (closed : Bool) (cs : List ℤ) (w row : ℤ) (len : ℕ) where
   answer-listed : r ≡ 0 → rowAnswer closed cs w row len .refusal ≡ cond (leb (2 * length runs) len) 0 8
   unfolding rowAnswer listRefusal
   answer-listed none =
-      let sound : isSound (boardOn (joinsOf closed cs w) row .board) ≡ true = ap isSound (none-reached closed cs w row none) ∙ reached-sound row (row-none closed cs w row none .1 .0) (offering (spansOn closed cs w row)) in
+      let inside = row-none closed cs w row none .1 .0 in
+      let reached = none-reached closed cs w row none in
+      let sound = ap isSound reached ∙ reached-sound row inside (offering (spansOn closed cs w row)) in
       rw (eq-eqb r 0 none) (list-refusal (boardOn (joinsOf closed cs w) row .board) len ∙ rw sound)
 
   room-exactly : (t : Bool) → leb (2 * length runs) len ≡ t → (cond {A = ℕ} t 0 8 ≡ 8) ↔ (len < 2 * length runs)

@@ -31,7 +31,7 @@ pub struct Prepared {
     pub joins: Joins,
 }
 
-/// The rows of a route, `first` to `last`; none, and 0 to 0, where it has no segments. In a refusal all is 0.
+/// The rows of a route, `first` to `last`. `some` is false, and both are 0, where it has none, and in a refusal.
 pub struct RowRange {
     pub refusal: u64,
     pub some: bool,
@@ -39,9 +39,9 @@ pub struct RowRange {
     pub last: i64,
 }
 
-/// The rows of a route: the least and the greatest of its segments' bounding boxes. Refused with 1 for an odd number of
-/// coordinates, 2 for more than 256 points or one of a closed route, 3 for a width outside 0 to 64, 4 for a coordinate outside
-/// 511, 5 for a join with a corner beyond 4,095.
+/// The rows of a route: the least and the greatest of its segments' bounding boxes; none where it has no segments. Refused with 1
+/// for an odd number of coordinates, 2 for more than 256 points or a closed route of one, 3 for a width outside 0 to 64, 4 for a
+/// coordinate beyond 511, 5 for a join with a corner beyond 4,095.
 pub fn rows(coordinates: &[i64], width: i64, closed: bool) -> RowRange
     ensures { λ r. ⌜ r ≡ rowsAnswer closed (now (coordinates .entry)) width ⌝ }
 {

@@ -6,13 +6,13 @@ use mathlib.Core.Logic.{_↔_}
 use Prim.Native.Nat.{ℕ, zero, suc, _+_, _*_, _≤_, _<_}
 use native.Mathlib.Nat.{zero-add, add-zero}
 use native.Mathlib.Omega.{arith}
-use borrow.Author.Tests.{leb-true, leb-false, le-leb, lt-leb, eqb-true, eq-eqb, ne-eqb, ltb-true, ltb-false, lt-ltb, le-ltb}
+use borrow.Author.Tests.{leb-true, leb-false, le-leb, eqb-true, eq-eqb, ne-eqb, ltb-true, ltb-false, lt-ltb, le-ltb}
 use lib.Dec.{leb, ltb, eqb, lit≤}
 use lib.IntN.{ℤ, pos, negsuc}
 use lib.ListN.{length, getD}
 use lib.Signed.{_≤ℤ_}
 use Rattle.whole.proofs.Linear.{linear, diff}
-use Rattle.whole.proofs.Tests.{and-left, and-right, chosen, chosen-exactly}
+use Rattle.whole.proofs.Tests.{and-left, and-right, chosen, chosen-exactly, never, good-first, good-later}
 use Rattle.shapes.specs.Refusals.{formRefused, roomRefused}
 use Rattle.route_file.specs.declared.inner.Entry.{Entry}
 use Rattle.route_file.specs.Numbers.{numberAt, signed, signedAt, signedFrom}
@@ -123,28 +123,18 @@ module _ (f : List ℕ) (k : ℕ) where
 
 -- ---- the points of a route: 9 exactly when the form is wrong, 8 exactly when it is right and the list has not enough numbers
 
-nine-of : (t u : Bool) {P : Type 0} → (t ≡ true) ↔ P → (cond t (cond u 0 roomRefused) formRefused ≡ formRefused) ↔ (P → ⊥)
-nine-of true true is = (λ e p. omega arith, λ no. absurd (no (is .0 refl)))
-nine-of true false is = (λ e p. omega arith, λ no. absurd (no (is .0 refl)))
-nine-of false u is = (λ e p. let never : _≡_ {A = ℕ} 0 1 = cc (is .1 p) in omega arith, λ no. refl)
-
-eight-of : (t u : Bool) → (cond t (cond u 0 roomRefused) formRefused ≡ roomRefused) ↔ ((t ≡ true) × (u ≡ false))
-eight-of true true = (λ e. absurd (omega arith), λ e. cc)
-eight-of true false = (λ e. (refl, refl), λ e. refl)
-eight-of false u = (λ e. absurd (omega arith), λ e. cc)
+short-of : (m n : ℕ) (t : Bool) → leb m n ≡ t → (cond t 0 roomRefused ≡ roomRefused) ↔ (n < m)
+short-of m n true e = (λ h. absurd (omega (arith, h)), λ h. absurd (omega (arith, h, leb-true m n e)))
+short-of m n false e = (λ h. leb-false m n e, λ h. refl)
 
 module _ (f : List ℕ) (k n : ℕ) where
   pub points-nine-exactly : (pointsRefusal f k n ≡ formRefused) ↔ (Formed f → ⊥)
   unfolding pointsRefusal
-  points-nine-exactly = nine-of (isFormed f) (leb (length (coordinates f k)) n) (formed-exactly f)
+  points-nine-exactly = good-first (isFormed f) (formed-exactly f) (never (leb (length (coordinates f k)) n) (λ e. omega (arith, e)) (λ e. omega (arith, e)))
 
   pub points-eight-exactly : (pointsRefusal f k n ≡ roomRefused) ↔ (Formed f × (n < length (coordinates f k)))
   unfolding pointsRefusal
-  points-eight-exactly =
-      let is = eight-of (isFormed f) (leb (length (coordinates f k)) n) in (
-        λ e. (true-formed f (is .0 e .0), leb-false (length (coordinates f k)) n (is .0 e .1)),
-        λ h. is .1 (formed-true (h .0), lt-leb (length (coordinates f k)) n (h .1)),
-      )
+  points-eight-exactly = good-later (isFormed f) (formed-exactly f) (λ e. omega (arith, e)) (short-of (length (coordinates f k)) n (leb (length (coordinates f k)) n) refl)
 
 -- a refusal writes nothing and counts nothing
 module _ (f : List ℕ) (k : ℕ) (out : List ℤ) (refused : 0 < pointsRefusal f k (length out)) where
@@ -197,12 +187,16 @@ signed-by n false e h = let high = ltb-false n 32768 e in rw e (omega (linear, d
 pub signed-range : (n : ℕ) → n < 65536 → (negsuc 32767 ≤ℤ signed n) × (signed n ≤ℤ pos 32767)
 signed-range n h = signed-by n (ltb n 32768) refl h
 
+-- a file is no longer than its two-byte length can say: 65,536 bytes and more have a wrong form
+pub formed-short : {f : List ℕ} → Formed f → ((i : ℕ) → getD f i 0 < 256) → length f < 65536
+unfolding saidLength
+formed-short {f} h small = omega (arith, h .said, number-small f 2 (small 2) (small 3))
+
 -- a list of 32,768 numbers has room for the points of every route
 enough-by : (f : List ℕ) (k : ℕ) (t : Bool) → ltb k (routeCount f) ≡ t → Formed f → ((i : ℕ) → getD f i 0 < 256) → length (coordinates f k) ≤ 32768
-unfolding saidLength
 enough-by f k true e h small =
     let known = ltb-true k (routeCount f) e in
-    omega (arith, coordinates-length f k known, h .each k known .inside, h .said, number-small f 2 (small 2) (small 3))
+    omega (arith, coordinates-length f k known, h .each k known .inside, formed-short h small)
 enough-by f k false e h small = let none = coordinates-none f k (ltb-false k (routeCount f) e) in rw none (lit≤ tt)
 
 pub enough : (f : List ℕ) (k : ℕ) → Formed f → ((i : ℕ) → getD f i 0 < 256) → length (coordinates f k) ≤ 32768

@@ -4,7 +4,7 @@ use mir.Facts.{toZ-ofZ}
 use Rattle.route.specs.Answers.{preparedOf}
 use Rattle.route.specs.Rows.{rowsRefusal}
 use Rattle.route.proofs.Ranges.{rows-near}
-use Rattle.route.proofs.Chains.{ready, refused-with, whole-refused, whole-made}
+use Rattle.route.proofs.Chains.{Ready, ready, refused-with, whole-refused, whole-made}
 use borrow.Author.Needs.{needs}
 use Rattle.route.proofs.refusal.Statement.{statement}
 use Rattle.route.proofs.refusal.Tie as tie
@@ -12,28 +12,31 @@ use Rattle.route.proofs.refusal.Tie as tie
 told : (c : tie.After-prepare) → let a = c .before .args in c .prepare .result ≡ preparedOf (a .closed) (a .coordinates .now) (a .width)
 told c = let a = c .before .args in c .prepare .ensures ∙ ap (preparedOf (a .closed) (a .coordinates .now)) (toZ-ofZ (c .before .fits .width))
 
+-- nothing refuses the route
+free : (c : tie.Else1) → let p = c .before .before in let a = p .before .args in Ready (a .closed) (a .coordinates .now) (a .width) (p .prepare .result .joins)
+free c = let p = c .before .before in let a = p .before .args in ready (a .closed) (a .coordinates .now) (a .width) (told p) (c .if1 .left)
+
 prepare-requires : tie.Need-prepare-requires
 prepare-requires c κs = search needs
 
 returns : tie.Need-returns
-returns c = let p = c .before .before in let a = p .before .args in whole-refused (a .closed) (a .coordinates .now) (a .width) (refused-with (a .closed) (a .coordinates .now) (a .width) (told p)) (c .if1 .taken)
+returns c =
+    let p = c .before .before in
+    let a = p .before .args in
+    whole-refused (a .closed) (a .coordinates .now) (a .width) (refused-with (a .closed) (a .coordinates .now) (a .width) (told p)) (c .if1 .taken)
 
 rows-of-requires : tie.Need-rows-of-requires
-rows-of-requires c κs = let p = c .before .before in let a = p .before .args in ready (a .closed) (a .coordinates .now) (a .width) (told p) (c .if1 .left) .kept
+rows-of-requires c κs = free c .kept
 
 rows-refusal-requires : tie.Need-rows-refusal-requires
-rows-refusal-requires c κs =
-    let p = c .before .before .before in
-    let a = p .before .args in
-    let kept = ready (a .closed) (a .coordinates .now) (a .width) (told p) (c .before .if1 .left) .kept in
-    (kept, rw (c .rows-of .ensures) (rows-near kept))
+rows-refusal-requires c κs = let kept = free (c .before) .kept in (kept, rw (c .rows-of .ensures) (rows-near kept))
 
 returns-2 : tie.Need-returns-2
 returns-2 c =
     let p = c .before .before .before .before in
     let a = p .before .args in
     c .rows-refusal .ensures ∙ ap (rowsRefusal (p .prepare .result .joins)) (c .before .rows-of .ensures)
-    ∙ whole-made (a .closed) (a .coordinates .now) (a .width) (ready (a .closed) (a .coordinates .now) (a .width) (told p) (c .before .before .if1 .left))
+    ∙ whole-made (a .closed) (a .coordinates .now) (a .width) (free (c .before .before))
 
 pub refusal-spec : {M : Type 1} → statement M
 refusal-spec =

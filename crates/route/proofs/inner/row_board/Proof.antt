@@ -163,7 +163,8 @@ returns-2 c =
     let l = c .before in
     let n = l .before .before in
     let r = n .before .args .t1 in
-    sym (ap (offerAll (l .loop .board)) (spans-none (segmentIn r) (y n) (n .segments-in .result) (l .loop .k) (omega arith)) ∙ offer-none (l .loop .board)) ∙ l .loop .inv .1 .1 .1 ∙ ap (boardOn r) (toZ-ofZ (n .before .fits .row))
+    let done = spans-none (segmentIn r) (y n) (n .segments-in .result) (l .loop .k) (omega arith) in
+    sym (ap (offerAll (l .loop .board)) done ∙ offer-none (l .loop .board)) ∙ l .loop .inv .1 .1 .1 ∙ ap (boardOn r) (toZ-ofZ (n .before .fits .row))
 
 pub row-board-spec : {M : Type 1} → statement M
 row-board-spec =
