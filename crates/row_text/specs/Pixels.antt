@@ -1,0 +1,61 @@
+-- 01, "The route file": a longer file than 65,535 bytes is refused, and the last line gives "the pixels of all printed runs".
+use mathlib.Core.Bool.{Bool, cond}
+use mathlib.Core.List.{List}
+use Prim.Native.Nat.{ℕ, zero, suc}
+use lib.Dec.{eqb, leb}
+use lib.IntN.{ℤ, pos, _+ℤ_}
+use lib.ListN.{length}
+use Rattle.shapes.specs.Refusals.{formRefused}
+use Rattle.board.specs.Runs.{total}
+use Rattle.board.specs.Boards.{live}
+use Rattle.route_file.specs.Form.{routeCount}
+use Rattle.route_file.specs.Answers.{formRefusal, described, coordinates}
+use Rattle.route.specs.declared.Joins.{Joins}
+use Rattle.route.specs.declared.RowRange.{RowRange}
+use Rattle.route.specs.Joined.{joinsOf}
+use Rattle.route.specs.Rows.{boardOn, rowsIn, rowCount, rowAt}
+use Rattle.route.specs.Answers.{wholeRefusal}
+
+-- "a file of at most 65,535 bytes"
+abbrev pub longest : ℕ
+longest = 65535
+
+-- "a longer input is refusal 9"
+unfoldable pub fileRefusal : List ℕ → ℕ
+fileRefusal f = cond (leb (length f) longest) (formRefusal f) formRefused
+
+-- `left` numbers, of the places from i on, added up
+unfoldable pub sumFrom : (ℕ → ℤ) → ℕ → ℕ → ℤ
+sumFrom number i zero = pos 0
+sumFrom number i (suc left) = number i +ℤ sumFrom number (suc i) left
+
+-- ---- the pixels of a route
+
+-- the columns of a row's runs
+unfoldable pub litOn : Joins → ℤ → ℤ
+litOn route row = total (live (boardOn route row .board))
+
+-- those of the row at place i
+unfoldable pub litAt : Joins → RowRange → ℕ → ℤ
+litAt route rows i = litOn route (rowAt rows i)
+
+unfoldable pub litIn : Joins → RowRange → ℤ
+litIn route rows = sumFrom (litAt route rows) 0 (rowCount rows)
+
+-- "A refused route prints `k refused N` and adds nothing"
+unfoldable pub routePixels : Bool → List ℤ → ℤ → ℤ
+routePixels closed cs w =
+    let route = joinsOf closed cs w in
+    cond (eqb (wholeRefusal closed cs w) 0) (litIn route (rowsIn route)) (pos 0)
+
+-- ---- the pixels of a file
+
+-- those of the route at place k
+unfoldable pub entryPixels : List ℕ → ℕ → ℤ
+entryPixels f k = routePixels (described f k .closed) (coordinates f k) (described f k .width)
+
+unfoldable pub allPixels : List ℕ → ℤ
+allPixels f = sumFrom (entryPixels f) 0 (routeCount f)
+
+unfoldable pub filePixels : List ℕ → ℤ
+filePixels f = cond (eqb (fileRefusal f) 0) (allPixels f) (pos 0)

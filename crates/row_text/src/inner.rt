@@ -1,0 +1,143 @@
+//! The lines of a file that is not refused.
+ghost use mathlib.Core.Path.{_≡_};
+ghost use Prim.Native.Nat.{_≤_};
+ghost use lib.ListN.{length};
+ghost use Rattle.whole.specs.Number.{Within};
+ghost use Rattle.shapes.specs.Limits.{cornerLimit, boardRuns};
+ghost use Rattle.route_file.specs.Form.{Formed};
+ghost use Rattle.route.specs.Joined.{Kept};
+ghost use Rattle.route.specs.Rows.{RowsNear, boardOn, rowsRefusal};
+ghost use Rattle.row_text.specs.Pixels.{longest, litOn, litIn, routePixels, entryPixels, allPixels};
+use board::Board;
+use board::Run;
+use board::inner::total_of;
+use replay_text::say;
+use replay_text::say_count;
+use replay_text::say_next;
+use replay_text::say_refused;
+use route::Joins;
+use route::RowRange;
+use route::inner::prepare;
+use route::inner::row_at;
+use route::inner::row_board;
+use route::inner::row_count;
+use route::inner::rows_of;
+use route::inner::rows_refusal;
+use route_file::inner::count_of;
+
+/// Pixels on their way round a loop.
+struct Sum {
+    total: i64,
+}
+
+/// Prints the line of a run: its route, its row, its start and its end.
+fn print_run(k: usize, row: i64, run: Run) {
+    say_count(k as u64);
+    say_next(row);
+    say_next(run.start);
+    say_next(run.end);
+    say(b"\n");
+}
+
+/// Prints the lines of a board's runs.
+fn print_runs(k: usize, board: Board)
+    requires { ⌜ board .count ≤ boardRuns ⌝ }
+{
+    let n = board.count;
+    let mut i: usize = 0;
+    while i < n {
+        let run = board.runs[i];
+        print_run(k, board.row, run);
+        i += 1;
+    }
+}
+
+/// Prints the runs of a row that has room for them, and answers their pixels.
+fn print_row(k: usize, route: Joins, row: i64) -> i64
+    requires { ⌜ Kept route ⌝ }
+    requires { ⌜ Within row cornerLimit ⌝ }
+    requires { ⌜ boardOn route row .refusal ≡ 0 ⌝ }
+    ensures { λ r. ⌜ r ≡ litOn route row ⌝ }
+{
+    let board = row_board(route, row).board;
+    print_runs(k, board);
+    total_of(board)
+}
+
+/// Prints the runs of a route that has no refused row, rows ascending, and answers their pixels.
+fn print_rows(k: usize, route: Joins, rows: RowRange) -> i64
+    requires { ⌜ Kept route ⌝ }
+    requires { ⌜ RowsNear rows ⌝ }
+    requires { ⌜ rowsRefusal route rows ≡ 0 ⌝ }
+    ensures { λ r. ⌜ r ≡ litIn route rows ⌝ }
+{
+    let n = row_count(rows);
+    let mut sum = Sum { total: 0 };
+    let mut i: usize = 0;
+    while i < n {
+        let row = row_at(rows, i);
+        let pixels = print_row(k, route, row);
+        sum.total = sum.total + pixels;
+        i += 1;
+    }
+    sum.total
+}
+
+/// Prints the line of a refused route.
+fn print_refused(k: usize, number: u64) {
+    say_count(k as u64);
+    say(b" ");
+    say_refused(number);
+    say(b"\n");
+}
+
+/// Prints the lines of route `k`: its runs, or the one line of its refusal. Answers the pixels of the runs.
+pub fn print_route(k: usize, coordinates: &[i64], width: i64, closed: bool) -> i64
+    ensures { λ r. ⌜ r ≡ routePixels closed (now (coordinates .entry)) width ⌝ }
+{
+    let route = prepare(coordinates, width, closed);
+    if 0 < route.refusal {
+        print_refused(k, route.refusal);
+        return 0;
+    }
+    let joins = route.joins;
+    let rows = rows_of(joins);
+    let number = rows_refusal(joins, rows);
+    if 0 < number {
+        print_refused(k, number);
+        return 0;
+    }
+    print_rows(k, joins, rows)
+}
+
+/// Prints the lines of the route that stands at place `k` of a file, and answers the pixels of its runs.
+fn print_entry(file: &[u8], k: usize) -> i64
+    requires { ⌜ Formed (now file) ⌝ }
+    requires { ⌜ length (now file) ≤ longest ⌝ }
+    ensures { λ r. ⌜ r ≡ entryPixels (now (file .entry)) k ⌝ }
+{
+    let entry = route_file::entry(file, k);
+    let mut room = [0i64; 32768];
+    let count = route_file::points(file, k, &mut room).count;
+    print_route(k, &room[..count], entry.width, entry.closed)
+}
+
+/// Prints the number of a file's routes and the lines of each, and answers the pixels of their runs.
+pub fn print_routes(file: &[u8]) -> i64
+    requires { ⌜ Formed (now file) ⌝ }
+    requires { ⌜ length (now file) ≤ longest ⌝ }
+    ensures { λ r. ⌜ r ≡ allPixels (now (file .entry)) ⌝ }
+{
+    let n = count_of(file);
+    say(b"routes ");
+    say_count(n as u64);
+    say(b"\n");
+    let mut sum = Sum { total: 0 };
+    let mut k: usize = 0;
+    while k < n {
+        let pixels = print_entry(file, k);
+        sum.total = sum.total + pixels;
+        k += 1;
+    }
+    sum.total
+}
