@@ -4,10 +4,11 @@ use mathlib.Core.Bool.{Bool, true, false, cond}
 use mathlib.Core.List.{List, [], _∷_, _++_}
 use Prim.Native.Nat.{ℕ, zero, suc, _+_, _*_, _-_, _≤_, _<_}
 use native.Mathlib.Omega.{arith}
-use borrow.Author.Tests.{eq-eqb, ne-eqb, eqb-true, eqb-false, le-leb, lt-leb, ltb-true, ltb-false}
-use lib.Dec.{eqb, leb, ltb}
+use borrow.Author.Tests.{eq-eqb, ne-eqb, eqb-true, leb-true, le-leb, lt-leb, ltb-true, ltb-false}
+use lib.Dec.{eqb, leb, ltb, lit≤}
 use lib.IntN.{ℤ, pos, _+ℤ_}
-use lib.ListN.{length, take, drop}
+use lib.ListN.{length, getD, take, drop}
+use lib.Seq.{take-append-seam}
 use Rattle.whole.specs.Number.{Within}
 use Rattle.whole.specs.Columns.{countFrom}
 use Rattle.whole.proofs.Bounds.{within-more}
@@ -23,7 +24,9 @@ use Rattle.board.specs.Boards.{Sound, live, offered}
 use Rattle.board.proofs.Ascend.{total-counts}
 use Rattle.board.proofs.Laws.{offered-sound}
 use Rattle.route_file.specs.declared.Counted.{Counted}
-use Rattle.route_file.specs.Answers.{formRefusal, counted}
+use Rattle.route_file.specs.Form.{saidLength, isFormed, Formed}
+use Rattle.route_file.specs.Answers.{formRefusal, counted, described, coordinates, pointsRefusal, pointed, pointedTo}
+use Rattle.route_file.proofs.Laws.{true-formed, formed-true, nine-exactly, number-small, enough}
 use Rattle.route.specs.declared.Joins.{Joins}
 use Rattle.route.specs.declared.RowRange.{RowRange}
 use Rattle.route.specs.Joined.{Kept, joinsOf}
@@ -32,7 +35,7 @@ use Rattle.route.specs.Answers.{drawRefusal, preparedOf, wholeRefusal}
 use Rattle.route.proofs.Offers.{empty-sound}
 use Rattle.route.proofs.Ranges.{rows-near, row-within, count-small, rows-stop}
 use Rattle.route.proofs.Chains.{Ready, ready, refused-with}
-use Rattle.row_text.specs.Pixels.{longest, fileRefusal, litOn, litAt, litIn, routePixels, entryPixels}
+use Rattle.row_text.specs.Pixels.{litOn, litAt, litIn, routePixels, entryPixels, allPixels, filePixels}
 use Rattle.row_text.proofs.Sums.{sum-within}
 
 -- ---- a row: the columns are 8,191
@@ -116,13 +119,65 @@ module _ (closed : Bool) (cs : List ℤ) (w : ℤ) where
       by true e = rows-pixels (joinsOf closed cs w) (rows-near (kept (eqb-true (wholeRefusal closed cs w) 0 e)))
       by false e = record { bound = omega arith }
 
--- ---- a file: refused for its length, or by its form
+  -- a refused route adds nothing, and any other what its rows light
+  pub pixels-refused : {m : ℕ} → m ≡ wholeRefusal closed cs w → 0 < m → pos 0 ≡ routePixels closed cs w
+  unfolding routePixels
+  pixels-refused e h = rw (ne-eqb (wholeRefusal closed cs w) 0 (λ z. omega (arith, e, z)))
 
-module _ (f : List ℕ) where
-  pub too-long : longest < length f → formRefused ≡ fileRefusal f
-  unfolding fileRefusal
-  too-long h = rw (lt-leb (length f) longest h)
+  pub pixels-drawn : {js : Joins} → Ready closed cs w js → wholeRefusal closed cs w ≡ 0 → litIn js (rowsIn js) ≡ routePixels closed cs w
+  unfolding routePixels
+  pixels-drawn r e = rw (r .joins, eq-eqb (wholeRefusal closed cs w) 0 e)
 
-  pub by-form : length f ≤ longest → {c : Counted} → c ≡ counted f → c .refusal ≡ fileRefusal f
-  unfolding fileRefusal counted
-  by-form h e = ap (λ d. d .refusal) e ∙ rw (le-leb (length f) longest h)
+-- ---- a file
+
+-- "a longer input is refusal 9": no two-byte number is its length
+pub long-refused : (f : List ℕ) → ((i : ℕ) → getD f i 0 < 256) → 65535 < length f → formRefusal f ≡ formRefused
+unfolding saidLength
+long-refused f bytes long = nine-exactly f .1 (λ h. absurd (omega (arith, h .said, number-small f 2 (bytes 2) (bytes 3))))
+
+module _ (f : List ℕ) {c : Counted} (is : c ≡ counted f) where
+  by-form : c .refusal ≡ cond (isFormed f) 0 9
+  unfolding counted formRefusal
+  by-form = ap (λ d. d .refusal) is
+
+  pub file-refused : 0 < c .refusal → pos 0 ≡ filePixels f
+  unfolding filePixels
+  file-refused h = by (isFormed f) by-form
+    where
+      by : (t : Bool) → c .refusal ≡ cond t 0 9 → pos 0 ≡ cond t (allPixels f) (pos 0)
+      by true e = absurd (omega arith)
+      by false e = refl
+
+  module _ (none : c .refusal ≤ 0) where
+    passed : isFormed f ≡ true
+    passed = by (isFormed f) by-form
+      where
+        by : (t : Bool) → c .refusal ≡ cond t 0 9 → t ≡ true
+        by true e = refl
+        by false e = absurd (omega arith)
+
+    pub file-formed : Formed f
+    file-formed = true-formed f passed
+
+    pub file-drawn : allPixels f ≡ filePixels f
+    unfolding filePixels
+    file-drawn = rw passed
+
+-- ---- the points of a route of the file: 32,768 numbers are enough for them
+
+module _ {f : List ℕ} (k : ℕ) (formed : Formed f) (bytes : (i : ℕ) → getD f i 0 < 256) (out : List ℤ) (long : length out ≡ 32768) where
+  accepted : pointsRefusal f k (length out) ≡ 0
+  unfolding pointsRefusal
+  accepted = rw (formed-true formed, le-leb (length (coordinates f k)) (length out) (omega (arith, enough f k formed bytes)))
+
+  pub handed-count : pointed f k (length out) .count ≡ length (coordinates f k)
+  unfolding pointed
+  handed-count = rw (eq-eqb (pointsRefusal f k (length out)) 0 accepted)
+
+  pub handed : take (length (coordinates f k)) (pointedTo f k out) ≡ coordinates f k
+  unfolding pointedTo
+  handed = rw (eq-eqb (pointsRefusal f k (length out)) 0 accepted) (take-append-seam (coordinates f k) (drop (length (coordinates f k)) out))
+
+pub entry-pixels : (f : List ℕ) (k : ℕ) → Within (entryPixels f k) (8191 * 8191)
+unfolding entryPixels
+entry-pixels f k = route-pixels (described f k .closed) (coordinates f k) (described f k .width)

@@ -1,28 +1,18 @@
--- 01, "The route file": a longer file than 65,535 bytes is refused, and the last line gives "the pixels of all printed runs".
+-- 01, "The route file": the last line gives "the pixels of all printed runs".
 use mathlib.Core.Bool.{Bool, cond}
 use mathlib.Core.List.{List}
 use Prim.Native.Nat.{ℕ, zero, suc}
-use lib.Dec.{eqb, leb}
+use lib.Dec.{eqb}
 use lib.IntN.{ℤ, pos, _+ℤ_}
-use lib.ListN.{length}
-use Rattle.shapes.specs.Refusals.{formRefused}
 use Rattle.board.specs.Runs.{total}
 use Rattle.board.specs.Boards.{live}
-use Rattle.route_file.specs.Form.{routeCount}
-use Rattle.route_file.specs.Answers.{formRefusal, described, coordinates}
+use Rattle.route_file.specs.Form.{routeCount, isFormed}
+use Rattle.route_file.specs.Answers.{described, coordinates}
 use Rattle.route.specs.declared.Joins.{Joins}
 use Rattle.route.specs.declared.RowRange.{RowRange}
 use Rattle.route.specs.Joined.{joinsOf}
 use Rattle.route.specs.Rows.{boardOn, rowsIn, rowCount, rowAt}
 use Rattle.route.specs.Answers.{wholeRefusal}
-
--- "a file of at most 65,535 bytes"
-abbrev pub longest : ℕ
-longest = 65535
-
--- "a longer input is refusal 9"
-unfoldable pub fileRefusal : List ℕ → ℕ
-fileRefusal f = cond (leb (length f) longest) (formRefusal f) formRefused
 
 -- `left` numbers, of the places from i on, added up
 unfoldable pub sumFrom : (ℕ → ℤ) → ℕ → ℕ → ℤ
@@ -57,5 +47,6 @@ entryPixels f k = routePixels (described f k .closed) (coordinates f k) (describ
 unfoldable pub allPixels : List ℕ → ℤ
 allPixels f = sumFrom (entryPixels f) 0 (routeCount f)
 
+-- a refused file prints none
 unfoldable pub filePixels : List ℕ → ℤ
-filePixels f = cond (eqb (fileRefusal f) 0) (allPixels f) (pos 0)
+filePixels f = cond (isFormed f) (allPixels f) (pos 0)

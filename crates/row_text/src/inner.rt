@@ -1,13 +1,12 @@
 //! The lines of a file that is not refused.
 ghost use mathlib.Core.Path.{_≡_};
 ghost use Prim.Native.Nat.{_≤_};
-ghost use lib.ListN.{length};
 ghost use Rattle.whole.specs.Number.{Within};
 ghost use Rattle.shapes.specs.Limits.{cornerLimit, boardRuns};
 ghost use Rattle.route_file.specs.Form.{Formed};
 ghost use Rattle.route.specs.Joined.{Kept};
 ghost use Rattle.route.specs.Rows.{RowsNear, boardOn, rowsRefusal};
-ghost use Rattle.row_text.specs.Pixels.{longest, litOn, litIn, routePixels, entryPixels, allPixels};
+ghost use Rattle.row_text.specs.Pixels.{litOn, litIn, routePixels, entryPixels, allPixels};
 use board::Board;
 use board::Run;
 use board::inner::total_of;
@@ -113,7 +112,6 @@ pub fn print_route(k: usize, coordinates: &[i64], width: i64, closed: bool) -> i
 /// Prints the lines of the route that stands at place `k` of a file, and answers the pixels of its runs.
 fn print_entry(file: &[u8], k: usize) -> i64
     requires { ⌜ Formed (now file) ⌝ }
-    requires { ⌜ length (now file) ≤ longest ⌝ }
     ensures { λ r. ⌜ r ≡ entryPixels (now (file .entry)) k ⌝ }
 {
     let entry = route_file::entry(file, k);
@@ -125,7 +123,6 @@ fn print_entry(file: &[u8], k: usize) -> i64
 /// Prints the number of a file's routes and the lines of each, and answers the pixels of their runs.
 pub fn print_routes(file: &[u8]) -> i64
     requires { ⌜ Formed (now file) ⌝ }
-    requires { ⌜ length (now file) ≤ longest ⌝ }
     ensures { λ r. ⌜ r ≡ allPixels (now (file .entry)) ⌝ }
 {
     let n = count_of(file);

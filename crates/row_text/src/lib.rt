@@ -1,7 +1,7 @@
 //! What the program `rows` prints of a route file. No contract can say what is written; but who prints knows how many pixels the
 //! runs have that are printed, and for that there is one.
 ghost use mathlib.Core.Path.{_≡_};
-ghost use Rattle.row_text.specs.Pixels.{fileRefusal, filePixels};
+ghost use Rattle.row_text.specs.Pixels.{filePixels};
 
 pub mod inner; // inner.rt: the lines of a file that is not refused
 
@@ -10,29 +10,15 @@ use replay_text::say;
 use replay_text::say_number;
 use replay_text::say_refused;
 use route_file::route_count;
-use shapes::refusals::FORM;
-
-/// A route file has at most 65,535 bytes.
-const LONGEST: usize = 65535;
-
-/// What a file is refused with, or 0: 9 if it has more than 65,535 bytes, or its form is wrong.
-pub fn refusal(file: &[u8]) -> u64
-    ensures { λ r. ⌜ r ≡ fileRefusal (now (file .entry)) ⌝ }
-{
-    if LONGEST < file.len() {
-        return FORM;
-    }
-    route_count(file).refusal
-}
 
 /// Prints the lit columns of a file's routes, and answers how many they are: the number of routes; of each route its runs, rows
 /// ascending, or its refusal; and the pixels of all printed runs. A refused file prints `refused 9` alone, and has none.
 pub fn print_file(file: &[u8]) -> i64
     ensures { λ r. ⌜ r ≡ filePixels (now (file .entry)) ⌝ }
 {
-    let number = refusal(file);
-    if 0 < number {
-        say_refused(number);
+    let counted = route_count(file);
+    if 0 < counted.refusal {
+        say_refused(counted.refusal);
         say(b"\n");
         return 0;
     }
