@@ -1,18 +1,17 @@
 -- How many pixels a row, a route and a file can have, and what the printing functions are handed. Assumes nothing.
-use mathlib.Core.Path.{_≡_, refl, sym, ap, _∙_}
+use mathlib.Core.Path.{_≡_, refl, sym, ap}
 use mathlib.Core.Bool.{Bool, true, false, cond}
-use mathlib.Core.List.{List, [], _∷_, _++_}
+use mathlib.Core.List.{List, [], _∷_}
 use Prim.Native.Nat.{ℕ, zero, suc, _+_, _*_, _-_, _≤_, _<_}
 use native.Mathlib.Omega.{arith}
-use borrow.Author.Tests.{eq-eqb, ne-eqb, eqb-true, leb-true, le-leb, lt-leb, ltb-true, ltb-false}
-use lib.Dec.{eqb, leb, ltb, lit≤}
+use borrow.Author.Tests.{eq-eqb, ne-eqb, eqb-true, le-leb, ltb-true, ltb-false}
+use lib.Dec.{eqb, leb, ltb}
 use lib.IntN.{ℤ, pos, _+ℤ_}
 use lib.ListN.{length, getD, take, drop}
 use lib.Seq.{take-append-seam}
 use Rattle.whole.specs.Number.{Within}
 use Rattle.whole.specs.Columns.{countFrom}
 use Rattle.whole.proofs.Bounds.{within-more}
-use Rattle.whole.proofs.Columns.{tests}
 use Rattle.whole.proofs.Linear.{linear, sum}
 use Rattle.shapes.specs.Limits.{cornerLimit}
 use Rattle.shapes.specs.Refusals.{formRefused}

@@ -1,5 +1,5 @@
 -- `row_text::inner::print_row` meets its contract: the board of a row is sound, whatever was offered. Assumes nothing.
-use mathlib.Core.Path.{_≡_, refl, ap, _∙_}
+use mathlib.Core.Path.{_≡_, ap, _∙_}
 use mir.Syntax.{w64}
 use mir.Facts.{toZ-ofZ}
 use Rattle.board.specs.Boards.{Sound, live}

@@ -1,7 +1,7 @@
 -- `row_text::inner::print_rows` meets its contract: the pixels so far, with those of the rows that are left, are all pixels. The measure is how
 -- many rows are left. Assumes nothing.
-use mathlib.Core.Path.{_≡_, refl, sym, ap, _∙_}
-use Prim.Native.Nat.{ℕ, _+_, _*_, _-_, _≤_, _<_}
+use mathlib.Core.Path.{_≡_, sym, ap, _∙_}
+use Prim.Native.Nat.{_+_, _*_, _-_, _≤_, _<_}
 use native.Mathlib.Omega.{arith}
 use lib.IntN.{ℤ, _+ℤ_, +ℤ-idl}
 use mir.Syntax.{w64}
@@ -11,7 +11,6 @@ use Rattle.whole.specs.Number.{Within}
 use Rattle.whole.proofs.Bounds.{within-more, within-add}
 use Rattle.whole.proofs.Machine.{Hold, hold, hold-as, hold-add, fits-add}
 use Rattle.whole.proofs.Linear.{linear, sum}
-use Rattle.shapes.specs.Limits.{cornerLimit}
 use Rattle.route.specs.Rows.{RowsNear, boardOn, rowCount, rowAt, refusalFrom, rowsRefusal}
 use Rattle.route.proofs.Ranges.{count-small, row-within, rows-more}
 use Rattle.row_text.specs.Pixels.{sumFrom, litOn, litAt, litIn}
