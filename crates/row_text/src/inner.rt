@@ -75,8 +75,8 @@ fn print_rows(k: usize, route: Joins, rows: RowRange) -> i64
     let mut i: usize = 0;
     while i < n {
         let row = row_at(rows, i);
-        let pixels = print_row(k, route, row);
-        sum.total = sum.total + pixels;
+        let lit = print_row(k, route, row);
+        sum.total = sum.total + lit;
         i += 1;
     }
     sum.total

@@ -1,5 +1,5 @@
 -- `replay_rows::read_bytes` is safe and ends: each turn fills a place. The measure is how many are left. Assumes nothing.
-use mathlib.Core.Path.{_≡_, refl, _∙_}
+use mathlib.Core.Path.{_≡_, _∙_}
 use Prim.Native.Nat.{_-_, _≤_}
 use native.Mathlib.Omega.{arith}
 use lib.ListN.{length, length-set}
