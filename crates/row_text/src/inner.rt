@@ -91,7 +91,7 @@ fn print_refused(k: usize, number: u64) {
 }
 
 /// Prints the lines of route `k`: its runs, or the one line of its refusal. Answers the pixels of the runs.
-pub fn print_route(k: usize, coordinates: &[i64], width: i64, closed: bool) -> i64
+fn print_route(k: usize, coordinates: &[i64], width: i64, closed: bool) -> i64
     ensures { λ r. ⌜ r ≡ routePixels closed (now (coordinates .entry)) width ⌝ }
 {
     let route = prepare(coordinates, width, closed);
