@@ -2,7 +2,7 @@
 use mathlib.Core.Path.{_≡_, refl, sym, ap}
 use mathlib.Core.Bool.{Bool, true, false, cond}
 use mathlib.Core.List.{List, [], _∷_}
-use Prim.Native.Nat.{ℕ, zero, suc, _+_, _*_, _-_, _≤_, _<_}
+use Prim.Native.Nat.{ℕ, _*_, _-_, _≤_, _<_}
 use native.Mathlib.Omega.{arith}
 use borrow.Author.Tests.{eq-eqb, ne-eqb, eqb-true, le-leb, ltb-true, ltb-false}
 use lib.Dec.{eqb, leb, ltb}
@@ -10,7 +10,6 @@ use lib.IntN.{ℤ, pos, _+ℤ_}
 use lib.ListN.{length, getD, take, drop}
 use lib.Seq.{take-append-seam}
 use Rattle.whole.specs.Number.{Within}
-use Rattle.whole.specs.Columns.{countFrom}
 use Rattle.whole.proofs.Bounds.{within-more}
 use Rattle.whole.proofs.Linear.{linear, sum}
 use Rattle.shapes.specs.Limits.{cornerLimit}
@@ -35,18 +34,10 @@ use Rattle.route.proofs.Offers.{empty-sound}
 use Rattle.route.proofs.Ranges.{rows-near, row-within, count-small, rows-stop}
 use Rattle.route.proofs.Chains.{Ready, ready, refused-with}
 use Rattle.row_text.specs.Pixels.{litOn, litAt, litIn, routePixels, entryPixels, allPixels, filePixels}
+use Rattle.row_text.proofs.Numbers.{count-most}
 use Rattle.row_text.proofs.Sums.{sum-within}
 
 -- ---- a row: the columns are 8,191
-
-one-most : (t : Bool) → cond t 1 0 ≤ 1
-one-most true = omega arith
-one-most false = omega arith
-
-count-most : (p : ℤ → Bool) (x : ℤ) (n : ℕ) → countFrom p x n ≤ n
-unfolding countFrom
-count-most p x zero = omega arith
-count-most p x (suc n) = omega (arith, one-most (p x), count-most p (x +ℤ pos 1) n)
 
 -- the columns, from the first on
 abbrev first : ℤ

@@ -1,2 +1,3 @@
-pub mod Sums
 pub mod Laws
+pub mod Numbers
+pub mod Sums

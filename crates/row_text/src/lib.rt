@@ -11,8 +11,8 @@ use replay_text::say_number;
 use replay_text::say_refused;
 use route_file::route_count;
 
-/// Prints the lit columns of a file's routes, and answers how many they are: the number of routes; of each route its runs, rows
-/// ascending, or its refusal; and the pixels of all printed runs. A refused file prints `refused 9` alone, and has none.
+/// Prints how many routes a file has; of each its runs, rows ascending, or its refusal; and the pixels of all printed runs, which it
+/// also answers. 9 if the file's form is wrong, or it has more than 65,535 bytes: `refused 9` alone is printed, and there are none.
 pub fn print_file(file: &[u8]) -> i64
     ensures { λ r. ⌜ r ≡ filePixels (now (file .entry)) ⌝ }
 {
