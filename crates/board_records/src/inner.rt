@@ -26,7 +26,7 @@ fn refused(refusal: u64) -> Listed
 }
 
 /// The listing to numbers alone, where the other list has `room` records. 6 if the board is none that a fresh board can come to; 8 if
-/// `out` has fewer than two numbers, or `room` is less than one, for each run. Refused, `out` is as it was.
+/// `out` has fewer than two numbers for each run, or `room` is less than the number of runs. Refused, `out` is as it was.
 pub fn list_within(board: Board, room: usize, out: &mut [i64]) -> Listed
     ensures { λ r. ⌜ (r ≡ bothListed board (length (now (out .entry))) room) × (now (out .exit) ≡ numbersTo board (now (out .entry)) room) ⌝ }
 {

@@ -106,7 +106,8 @@ module _ {M : Type 1} (𝓤 : URA M) (H : Heap 𝓤) (A : Atoms 𝓤) (at-mem : 
   got-of : (d : Board) (i : ℕ) (r : Run) → ent 𝓤 (ensured 𝓤 H A run-at.ended (run-at.clauses 𝓤 H A at-mem run) tt (d, (i, tt)) tt r) (fact 𝓤 (r ≡ getD (d .runs) i no-run))
   got-of d i r = exE 𝓤 _ (λ ws. snd∗ 𝓤 (sem 𝓤 H A (lasts run-at.ended tt (d, (i, tt)) ws)) (fact 𝓤 (r ≡ getD (d .runs) i no-run)))
 
-module _ {M : Type 1} (𝓤 : URA M) (H : Heap 𝓤) (A : Atoms 𝓤) (W : Given 𝓤 H A) (at-mem : Memory → SProp 𝓤) (run : Routine → Fun 𝓤) (κ : Lft) (q : Share) (b o : ℕ) (γ : GName) (ys : List Run) (d : Board) (n : ℕ) (rm : Room R (length ys)) (d-is : Is B.the-row d (held d ∷ [])) (n-fits : n < 2 ^ 64) (pre : (n ≤ boardRuns) × (n ≤ length ys)) where
+module _ {M : Type 1} (𝓤 : URA M) (H : Heap 𝓤) (A : Atoms 𝓤) (W : Given 𝓤 H A) (at-mem : Memory → SProp 𝓤) (run : Routine → Fun 𝓤) (κ : Lft) (q : Share) (b o : ℕ) (γ : GName)
+    (ys : List Run) (rm : Room R (length ys)) (d : Board) (d-is : Is B.the-row d (held d ∷ [])) (n : ℕ) (n-fits : n < 2 ^ 64) (pre : (n ≤ boardRuns) × (n ≤ length ys)) where
   abbrev x : List Run → RefT (List Run)
   x l = record { ptr = (b, o); name = γ; now = l }
 
@@ -201,7 +202,7 @@ module _ {M : Type 1} (𝓤 : URA M) (H : Heap 𝓤) (A : Atoms 𝓤) (W : Given
           assigns ! (bin ! (load ! (from ! (fld ! refl (stop !))) (look-in ! 6 (sub ! 0 refl (whole !)))) (load ! (from ! (stop !)) (look ! 4 refl)) tt) (from ! (stop !)) (init ! 5 refl (tt, tt)) $
           rewrite ! 5 (λ (p : ℕ). ‵ (fat fullShare tyPtr l₈ 0 (vptr b p))) (sym (place-is 16 o i)) refl $
           elem-out ! R (Is R) (shows 𝓤 H A R) (LL.vals T.the-type T′.the-laws) (LL.tells T.the-type T′.the-laws) fullShare (L i) i no-run b o (omega (arith, L-len i (omega arith))) (λ _.
-          -- [out[i]; what it owns; the others; _4; _5; _6; _7; _8; _1; ..]
+          -- [records[i]; what it owns; the others; _4; _5; _6; _7; _8; _3; …]
           assigns ! (of-opd ! (load ! (from ! (stop !)) (look ! 4 refl))) (from ! (hop ! (look ! 7 refl) (stop !))) (store-raw ! 0 refl (LL.lawful T.the-type T′.the-laws 𝓤 H A W .typed r _ (again-is r v is) .0)) $
           move ! (1 ∷ []) $ drops ! $ owned ! R (Is R) (LL.makes T.the-type T′.the-plain 𝓤 H A) r _ (again-is r v is) $ move ! (1 ∷ 0 ∷ []) $ elem-put ! R fullShare (L i) i r (mach r ∷ []) b o (omega (arith, L-len i (omega arith))) $
           rewrite ! 0 (λ (l : List Run). ‵ (row R fullShare l b o)) (ap (λ (z : Run). set (L i) i z) e ∙ turned ys (d .runs) i (omega arith) (omega (arith, array-long d d-is))) refl $
@@ -266,7 +267,7 @@ module _ {M : Type 1} (𝓤 : URA M) (H : Heap 𝓤) (A : Atoms 𝓤) (W : Given
   walks = walked 𝓤 H A copy-runs.ended stayed (copy-runs.clauses 𝓤 H A at-mem run) (WpFn 𝓤 H (𝓣 .C) (𝓣 .Λ) code.function)
       (λ κs. (LL.vals B.the-type B′.the-laws, (uint-vals w64, (slice-vals, tt)))) (λ κs. (LL.tells B.the-type B′.the-laws, (uint-tells w64, (mut-slice-tells (named 0) (κs .0) R, tt))))
       (λ κs qs bounds a g are. asked 𝓤 ((a .1 .0 ≤ boardRuns) × (a .1 .0 ≤ length (a .1 .1 .0 .now))) _ (λ pre.
-      walk 𝓤 H A W at-mem run (κs .0) (qs .0) (a .1 .1 .0 .ptr .0) (a .1 .1 .0 .ptr .1) (a .1 .1 .0 .name) (a .1 .1 .0 .now) (a .0) (a .1 .0) (are .1 .1 .0 .0 .1) (are .0) (are .1 .0 .1) pre 𝓣 (fmOf 𝓤 H (W .laws) 𝓣) known))
+      walk 𝓤 H A W at-mem run (κs .0) (qs .0) (a .1 .1 .0 .ptr .0) (a .1 .1 .0 .ptr .1) (a .1 .1 .0 .name) (a .1 .1 .0 .now) (are .1 .1 .0 .0 .1) (a .0) (are .0) (a .1 .0) (are .1 .0 .1) pre 𝓣 (fmOf 𝓤 H (W .laws) 𝓣) known))
 
   meets : Meets 𝓤 H A copy-runs.signature (WpFn 𝓤 H (𝓣 .C) (𝓣 .Λ) code.function) (copy-runs.spec 𝓤 H A at-mem run)
   meets = walk-meets 𝓤 H A copy-runs.ended stayed W (goes-none 𝓤 H A W 1 (λ _. B.the-row) yes (λ κs x f. refl), (goes-none 𝓤 H A W 1 (λ _. usize) yes (λ κs x f. refl), (goes-slice 𝓤 H A W 1 0 tt (plain (λ _. R)), tt)))
