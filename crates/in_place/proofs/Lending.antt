@@ -1,4 +1,5 @@
--- Locals of plain types that are lent: how the value of a struct, or of an array that is lent whole as a slice, becomes what lies in memory, and how that becomes a value again.
+-- Locals of plain types that are lent: how the value of a struct, or of an array that is lent whole as a slice, becomes what lies in
+-- memory, and how that becomes a value again.
 -- Assumes nothing.
 use mathlib.Core.Path.{refl, sym}
 use Prim.Native.Nat.{ℕ}

@@ -1,5 +1,6 @@
--- A walk that its owner lends to be stepped in place, by hand, for the open and the closed walk. The walk is put in memory and lent for a lifetime that is made here, the step in place is called,
--- of which only the contract is known, the lifetime is ended, and the walk comes back with what that contract says.
+-- A walk that its owner lends to be stepped in place, by hand, for the open and the closed walk. The walk is put in memory and lent for a
+-- lifetime that is made here, the step in place is called, of which only the contract is known, the lifetime is ended, and the walk
+-- comes back with what that contract says.
 -- Assumes nothing.
 use mathlib.Core.Path.{_≡_, refl, sym, ap, subst, _∙_}
 use Prim.Native.Nat.{ℕ}
@@ -170,7 +171,7 @@ module _ (K : Walker) (O : Owner K) where
           move ! (6 ∷ []) $ use1 W (‵ (mem (T K) .lies h l₃ 0)) (placed 𝓤 H A W (K .walker) (K .laws) (K .plain) l₃ h h-is) $
           lft-new ! tt (λ α. move ! (1 ∷ []) $
           use1 W (later (some (λ (γ : GName). ‵ (Lent l₃ (α ∷ []) γ) ⊛ ‵ (flent (α ∷ []) (Body (mem (T K)) l₃ 0 γ))))) (lends-ref 𝓤 H A W (T K) (named 0) (α ∷ []) h l₃ 0) $ await ! tt $ pick ! (λ γ. split ! $
-          -- [what is lent owns; its loan; its token; _6; …]
+          -- [what the lent walk owns; its loan; its token; _6; …]
           move ! (2 ∷ 18 ∷ []) $ join ! $ move ! (1 ∷ 16 ∷ []) $ join ! $ use2 W (raw (InPlace 𝓤 H A .pre (to-step l₃ (α ∷ []) γ))) (goes-step l₃ (α ∷ []) γ) $
           calls-at ! fm (InPlace 𝓤 H A) known (to-step l₃ (α ∷ []) γ) (and-then ! (load ! (from ! (stop !)) (look ! 4 refl)) (and-then ! (load ! (from ! (stop !)) (look ! 11 refl)) (no-more !))) (λ v.
           use1 W (later (some (λ (s : Step). ((‵ (flft (α ∷ []) fullShare) ⊛ (‵ (flft κ q) ⊛ ‵ ftrue)) ⊛ ‵ (E.the-row .own s (v ∷ []))) ⊛ raw (ensured 𝓤 H A (in-place K) (promised K 𝓤 H A) (α ∷ [], (κ, tt)) (x l₃ (α ∷ []) γ, (y, tt)) tt s)))) (id⊢ 𝓤 _) $ await ! tt $ pick ! (λ s.

@@ -1,6 +1,6 @@
 //! Steps sample routes in place, from the first segment to the end and once more. A line tells what a step answers, behind the place
 //! that it leaves its walk at: of a segment the right edge, the left edge, and the start and end of its span on one row. The spans
-//! of a route go to a board of that row, whose runs are then listed to twelve numbers and to four records.
+//! of a route go to a board of that row, whose runs are then listed to twelve numbers and to four records. The last walk is refused.
 mod owners; // owners.rt: owners that lend what is worked on in place
 
 use board::Board;
@@ -120,8 +120,8 @@ fn closed_route(coordinates: &[i64], width: i64, offset: Offset, row: i64) {
     walk_closed(coordinates, walk, row, coordinates.len() / 2 + 2);
 }
 
-// Walks that are refused stay where they are.
-fn refused_walks(coordinates: &[i64]) {
+// A walk that is refused stays where it is.
+fn refused_walk(coordinates: &[i64]) {
     walk_open(
         coordinates,
         thick_segment_iter::Walk {
@@ -139,5 +139,5 @@ fn main() {
     open_route(&zigzag[..10], 7, 3);
     closed_route(&zigzag, 3, Offset::Left, 20);
     closed_route(&zigzag[..6], 5, Offset::Right, 11);
-    refused_walks(&zigzag);
+    refused_walk(&zigzag);
 }

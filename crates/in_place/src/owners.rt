@@ -20,7 +20,8 @@ pub struct Lists {
 
 /// An open walk stepped in place: what is answered, and the walk as it was left.
 pub fn open_step(coordinates: &[i64], walk: thick_segment_iter::Walk) -> thick_segment_iter::Stepped
-    ensures { λ r. ⌜ (stepValues (r .step) ≡ openStep (now (coordinates .entry)) walk) × (r .walk ≡ afterOpen (now (coordinates .entry)) walk) ⌝ }
+    ensures { λ r. ⌜ (stepValues (r .step) ≡ openStep (now (coordinates .entry)) walk)
+        × (r .walk ≡ afterOpen (now (coordinates .entry)) walk) ⌝ }
 {
     let mut owned = walk;
     let step = step_open(&mut owned, coordinates);
@@ -32,7 +33,8 @@ pub fn closed_step(
     coordinates: &[i64],
     walk: closed_thick_segment_iter::Walk,
 ) -> closed_thick_segment_iter::Stepped
-    ensures { λ r. ⌜ (stepValues (r .step) ≡ closedStep (now (coordinates .entry)) walk) × (r .walk ≡ afterClosed (now (coordinates .entry)) walk) ⌝ }
+    ensures { λ r. ⌜ (stepValues (r .step) ≡ closedStep (now (coordinates .entry)) walk)
+        × (r .walk ≡ afterClosed (now (coordinates .entry)) walk) ⌝ }
 {
     let mut owned = walk;
     let step = step_closed(&mut owned, coordinates);

@@ -1,5 +1,6 @@
 -- A walk stepped in place, by hand, for the open and the closed walk: they differ in the struct that is lent, and in what its step answers.
--- The borrow is opened, the walk is copied out and passed with the list to the by-value step, of which only the contract is known, the walk after it is stored, and the borrow is closed at that.
+-- The borrow is opened, the walk is copied out and passed with the list to the by-value step, of which only the contract is known, the
+-- walk after it is stored, and the borrow is closed at that.
 -- Assumes nothing.
 use mathlib.Core.Path.{_≡_, refl}
 use Prim.Native.Nat.{ℕ}
@@ -181,12 +182,12 @@ module _ (K : Walker) where
       walk =
           qed W ((‵ (flft κ q) ⊛ ‵ (flft κ′ q′) ⊛ ‵ ftrue) ∷ ‵ (owns (MutRef (named 0) κ T ∷ ShrSlice (named 1) κ′ i64 ∷ []) x at) ∷ []) ∵ split ! $ move ! (2 ∷ []) $ fsplit ! $ fsplit3 ! $ drop ! $
           move ! (2 ∷ []) $ fsplit ! $ use1 W (‵ Shr ⊛ ‵ Shr) (shr-slice-copy 𝓤 H A W (named 1) κ′ i64 .twice y (sv ∷ [])) $ split ! $ move ! (3 ∷ 4 ∷ 5 ∷ []) $
-          -- [obs; the borrow; the token; what s owns, twice; true; the other token]
+          -- [obs; the borrow; its token; what the list owns, twice; true; the list's token]
           enter ! C Λ function (vptr b o ∷ sv ∷ []) _ $
           alloc1 ! (λ l₀. alloc1 ! (λ l₁. alloc1 ! (λ l₂. alloc1 ! (λ l₃. alloc1 ! (λ l₄. alloc0 ! $ params1 ! $ pass1 ! (init ! 6 refl (tt, tt)) $ pass1 ! (init ! 4 refl (tt, (tt, (record { fits = rm .0 }, tt)))) $ pass0 ! $
           move ! (10 ∷ 11 ∷ 12 ∷ []) $ opens ! tt T {h = h} b o (λ vs. spelt ! T (Is T) (shows 𝓤 H A T) (LL.vals (K .walker) (K .laws)) (LL.tells (K .walker) (K .laws)) fullShare h vs b o $
           move ! (1 ∷ []) $ peeks ! T (Is T) (shows 𝓤 H A T) h (mach h ∷ []) (λ is. move ! (1 ∷ 0 ∷ []) $
-          -- [the struct's cell; what a Walk owns; the open borrow; obs; auth; _4; …; _3; …; _2; …; _1; …; room for _0; …; what s owns, twice; true; the other token]
+          -- [the struct's cell; what a Walk owns; the open borrow; obs; auth; _4; …; _3; …; _2; …; _1; …; room for _0; …; what the list owns, twice; true; the list's token]
           assigns ! (of-opd ! (load ! (from ! (hop ! (look ! 11 refl) (stop !))) (look-raw ! 0 refl))) (from ! (stop !)) (init ! 5 refl (LL.lawful (K .walker) (K .laws) 𝓤 H A W .typed h _ is .0)) $
           move ! (18 ∷ 15 ∷ []) $ use2 W (raw (ByValue 𝓤 H A .pre to-step)) (goes-step is) $
           calls-at ! fm (ByValue 𝓤 H A) known to-step (and-then ! (load ! (from ! (stop !)) (look ! 10 refl)) (and-then ! (load ! (from ! (stop !)) (look ! 6 refl)) (no-more !))) (λ v.

@@ -1,4 +1,4 @@
--- `walks_in_place::step_closed` meets its contract: the walk of its MIR that `Stepping` has, at a closed walk. Assumes nothing.
+-- `walks_in_place::step_closed` meets its contract: `Stepping`, at the closed walk. Assumes nothing.
 use contract.Running.{givenOf, tables, tablesOf}
 use denote.Triple.Spec.{tripleOf}
 use denote.Triple.Table.{entered, cited}

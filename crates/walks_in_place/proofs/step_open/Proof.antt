@@ -1,4 +1,4 @@
--- `walks_in_place::step_open` meets its contract: the walk of its MIR that `Stepping` has, at an open walk. Assumes nothing.
+-- `walks_in_place::step_open` meets its contract: `Stepping`, at the open walk. Assumes nothing.
 use contract.Running.{givenOf, tables, tablesOf}
 use denote.Triple.Spec.{tripleOf}
 use denote.Triple.Table.{entered, cited}

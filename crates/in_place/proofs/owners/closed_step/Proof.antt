@@ -1,4 +1,4 @@
--- `in_place::owners::closed_step` meets its contract: the walk of its MIR that `Owning` has, at a closed walk. Assumes nothing.
+-- `in_place::owners::closed_step` meets its contract: `Owning`, at the closed walk. Assumes nothing.
 use mathlib.Core.Path.{refl}
 use contract.Running.{givenOf, tables, tablesOf}
 use denote.Triple.Spec.{tripleOf}

@@ -1,5 +1,5 @@
--- `in_place::owners::list` meets its contract: a walk of its MIR, by hand. Each local array is lent for a lifetime that is made here, the call is made at the two
--- slices, the lifetimes are ended, and the arrays come back with what the contract of `list_records` says.
+-- `in_place::owners::list` meets its contract: a walk of its MIR, by hand. Each local array is lent for a lifetime that is made here, the
+-- call is made at the two slices, the lifetimes are ended, and the arrays come back with what the contract of `list_records` says.
 -- Assumes nothing.
 use mathlib.Core.Path.{_≡_, refl, sym, subst, _∙_}
 use Prim.Native.Nat.{ℕ}

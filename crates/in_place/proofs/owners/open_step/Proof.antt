@@ -1,4 +1,4 @@
--- `in_place::owners::open_step` meets its contract: the walk of its MIR that `Owning` has, at an open walk. Assumes nothing.
+-- `in_place::owners::open_step` meets its contract: `Owning`, at the open walk. Assumes nothing.
 use mathlib.Core.Path.{refl}
 use contract.Running.{givenOf, tables, tablesOf}
 use denote.Triple.Spec.{tripleOf}
