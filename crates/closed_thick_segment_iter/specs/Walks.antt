@@ -1,7 +1,7 @@
 -- 01, closed_thick_segment_iter.rs: n segments of n points, one of the three offsets.
 use mathlib.Core.Bool.{true, cond}
 use mathlib.Core.List.{List}
-use Prim.Native.Nat.{ℕ, zero, suc}
+use Prim.Native.Nat.{ℕ}
 use lib.Dec.{eqb}
 use lib.IntN.{ℤ, pos}
 use Rattle.shapes.specs.Limits.{pointLimit}
@@ -27,8 +27,3 @@ stepOf cs walk = stepAt (walkRefusal cs (walk .width)) (closedCount cs) (closedS
 
 unfoldable pub walkAfter : List ℤ → Walk → Walk
 walkAfter cs walk = record { place = placeFrom (stepOf cs walk) (walk .place); width = walk .width; offset = walk .offset }
-
--- the walk after n steps from a start
-unfoldable pub walkAt : List ℤ → ℤ → Offset → ℕ → Walk
-walkAt cs w o zero = started cs w o .walk
-walkAt cs w o (suc n) = walkAfter cs (walkAt cs w o n)

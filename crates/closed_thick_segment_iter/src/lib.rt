@@ -5,11 +5,8 @@ ghost use Rattle.route_joins.specs.Steps.{stepValues};
 ghost use Rattle.closed_thick_segment_iter.specs.Walks.{started, stepOf, walkAfter};
 use coordinates::refusal;
 use route_joins::Step;
-use route_joins::inner::closed_count;
-use route_joins::inner::closed_segment;
+use route_joins::inner::step_at;
 use shapes::Offset;
-use shapes::refusals::CORNER;
-use thick_segment::inner::is_segment_near;
 
 /// A walk: the place of its next segment, the width of the stroke, and where the stroke lies. Any numbers may be handed in: a
 /// place past the last segment is the end, and a width outside 0 to 64 is refused.
@@ -66,34 +63,15 @@ pub fn step(coordinates: &[i64], walk: Walk) -> Stepped
     let place = walk.place;
     let width = walk.width;
     let offset = walk.offset;
-    let number = refusal(coordinates, width, true);
-    if 0 < number {
-        return Stepped {
-            step: Step::Refused(number),
-            walk,
-        };
-    }
-    if place < closed_count(coordinates) {
-        let segment = closed_segment(coordinates, width, offset, place);
-        let further = place + 1;
-        let next = Walk {
+    let stepped = step_at(coordinates, width, true, offset, place);
+    let step = stepped.step;
+    let further = stepped.place;
+    Stepped {
+        step,
+        walk: Walk {
             place: further,
             width,
             offset,
-        };
-        if is_segment_near(segment) {
-            return Stepped {
-                step: Step::Drawn(segment),
-                walk: next,
-            };
-        }
-        return Stepped {
-            step: Step::Refused(CORNER),
-            walk,
-        };
-    }
-    Stepped {
-        step: Step::End,
-        walk,
+        },
     }
 }

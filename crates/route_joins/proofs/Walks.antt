@@ -16,7 +16,7 @@ use Rattle.thick_segment.specs.Segments.{SegmentNear, isSegmentNear}
 use Rattle.thick_segment.proofs.Refused.{segment-near-iff}
 use Rattle.route_joins.specs.declared.Step.{Step}
 use Rattle.route_joins.specs.declared.Step.the-variants.{Drawn, End, Refused}
-use Rattle.route_joins.specs.Steps.{StepValues, stepValues, checked, stepAt, placeFrom, placeAt}
+use Rattle.route_joins.specs.Steps.{StepValues, stepValues, checked, stepAt, placeFrom, afterSteps, SegmentBySegment}
 
 -- ---- one step: `refusal` is that of the list and the width
 
@@ -52,82 +52,51 @@ ended : {v : StepValues} → v ≡ stepValues End → (place : ℕ) → placeFro
 unfolding placeFrom
 ended e place = rw e
 
--- ---- what code that steps has to show: its answer v, and the place after it
+-- ---- many steps of a walk that its list and width do not refuse: `at p` is the walk at place p
 
-module _ {n refusal : ℕ} (count : ℕ) (segment : ℕ → Segment) (place : ℕ) (is : n ≡ refusal) where
-  abbrev Told : StepValues → ℕ → Type 0
-  Told v next = (v ≡ stepAt refusal count segment place) × (next ≡ placeFrom (stepAt refusal count segment place) place)
-
-  pub told-refused : 0 < n → Told (stepValues (Refused n)) place
-  told-refused h = let e = step-refused refusal count segment place (omega (arith, is)) in (ap (λ m. stepValues (Refused m)) is ∙ sym e, sym (stayed e place))
-
-  module _ (none : n ≤ 0) where
-    no : refusal ≡ 0
-    no = omega (arith, is)
-
-    pub told-end : {m : ℕ} → m ≡ count → m ≤ place → Told (stepValues End) place
-    told-end e h = let f = step-end refusal count segment place no (omega (arith, e)) in (sym f, sym (ended f place))
-
-    module _ {m : ℕ} {s : Segment} (all : m ≡ count) (more : place < m) (here : s ≡ segment place) where
-      pub told-drawn : isSegmentNear cornerLimit s ≡ true → Told (stepValues (Drawn s)) (place + 1)
-      told-drawn near =
-          let f = step-drawn refusal count segment place no (omega (arith, all)) (rw here at near) in
-          (ap (λ t. stepValues (Drawn t)) here ∙ sym f, sym (moved-on f place))
-
-      pub told-corner : isSegmentNear cornerLimit s ≡ false → Told (stepValues (Refused cornerRefused)) place
-      told-corner far = let f = step-corner refusal count segment place no (omega (arith, all)) (rw here at far) in (sym f, sym (stayed f place))
-
--- ---- many steps of a walk that its list and width do not refuse
-
-module _ (count : ℕ) (segment : ℕ → Segment) where
-  abbrev at : ℕ → ℕ
-  at = placeAt 0 count segment
-
-  abbrev answer : ℕ → StepValues
-  answer = stepAt 0 count segment
+module _ {W : Type 0} (answer : W → StepValues) (after : W → W) (at : ℕ → W) (count : ℕ) (segment : ℕ → Segment)
+    (answers : (p : ℕ) → answer (at p) ≡ stepAt 0 count segment p)
+    (moves : (p : ℕ) → after (at p) ≡ at (placeFrom (stepAt 0 count segment p) p)) where
+  abbrev walk : ℕ → W
+  walk = afterSteps after (at 0)
 
   abbrev near : ℕ → Type 0
   near j = SegmentNear cornerLimit (segment j)
 
-  passes : {j : ℕ} → near j → isSegmentNear cornerLimit (segment j) ≡ true
-  passes {j} = segment-near-iff cornerLimit (segment j) .1
-
-  next : (n : ℕ) → at (n + 1) ≡ placeFrom (answer (at n)) (at n)
-  unfolding placeAt
-  next n = rw (add-one n)
+  here : {j : ℕ} → j < count → near j → stepAt 0 count segment j ≡ stepValues (Drawn (segment j))
+  here {j} h n = step-drawn 0 count segment j refl h (segment-near-iff cornerLimit (segment j) .1 n)
 
   -- as long as the segments are near, the place after n steps is n
-  pub walked : (n : ℕ) → n ≤ count → ((j : ℕ) → j < n → near j) → at n ≡ n
-  unfolding placeAt
+  walked : (n : ℕ) → n ≤ count → ((j : ℕ) → j < n → near j) → walk n ≡ at n
+  unfolding afterSteps
   walked zero h f = refl
   walked (suc n) h f =
-      let here = walked n (omega arith) (λ j l. f j (omega arith)) in
-      rw here (moved-on (step-drawn 0 count segment n refl (omega arith) (passes (f n (omega arith)))) n ∙ add-one n)
+      rw (walked n (omega arith) (λ j l. f j (omega arith)))
+      (moves n ∙ ap at (moved-on (here (omega arith) (f n (omega arith))) n ∙ add-one n))
 
   -- a walk that has come to a place where a step does not move stays there for ever
-  stays : (p : ℕ) → placeFrom (answer p) p ≡ p → (m n : ℕ) → at n ≡ p → at (n + m) ≡ p
+  stays : (p : ℕ) → after (at p) ≡ at p → (m n : ℕ) → walk n ≡ at p → walk (n + m) ≡ at p
+  unfolding afterSteps
   stays p e zero n h = rw (add-zero n) h
   stays p e (suc m) n h =
-      let on : n + suc m ≡ (n + m) + 1 = omega arith in
-      let here = stays p e m n h in
-      rw on (next (n + m) ∙ rw here e)
+      let on : n + suc m ≡ suc (n + m) = omega arith in
+      rw (on, stays p e m n h) e
 
-  -- the k-th step answers the segment at place k
-  pub step-answers : (k : ℕ) → k < count → ((j : ℕ) → j < k + 1 → near j) → answer (at k) ≡ stepValues (Drawn (segment k))
-  step-answers k h f = rw (walked k (omega arith) (λ j l. f j (omega arith))) (step-drawn 0 count segment k refl h (passes (f k (omega arith))))
+  -- what a step answers at a place that the walk has come to
+  answered : {p : ℕ} {v : StepValues} (n : ℕ) → walk n ≡ at p → stepAt 0 count segment p ≡ v → answer (walk n) ≡ v
+  answered {p} n h e = ap answer h ∙ answers p ∙ e
 
-  -- after the last segment comes the end, for ever
-  pub step-ends : ((j : ℕ) → j < count → near j) → (m : ℕ) → answer (at (count + m)) ≡ stepValues End
-  step-ends f m =
-      let over = step-end 0 count segment count refl (omega arith) in
-      rw (stays count (ended over count) m count (walked count (omega arith) f)) over
-
-  -- a walk that is refused with 5 at a segment is refused with 5 for ever
-  pub step-refuses : (k : ℕ) → k < count → ((j : ℕ) → j < k → near j) → (near k → ⊥)
-      → (m : ℕ) → answer (at (k + m)) ≡ stepValues (Refused cornerRefused)
-  step-refuses k h f far m =
-      let over = step-corner 0 count segment k refl h (untrue (isSegmentNear cornerLimit (segment k)) (λ e. far (segment-near-iff cornerLimit (segment k) .0 e))) in
-      rw (stays k (stayed over k) m k (walked k (omega arith) f)) over
+  pub segments-in-turn : {begun : W} → begun ≡ at 0 → SegmentBySegment answer after begun count segment
+  segments-in-turn e =
+      rw e record {
+        drawn = λ k h f. answered k (walked k (omega arith) (λ j l. f j (omega arith))) (here h (f k (omega arith)));
+        ends = λ f m.
+            let over = step-end 0 count segment count refl (omega arith) in
+            answered (count + m) (stays count (moves count ∙ ap at (ended over count)) m count (walked count (omega arith) f)) over;
+        refuses = λ k h f far m.
+            let over = step-corner 0 count segment k refl h (untrue (isSegmentNear cornerLimit (segment k)) (λ e. far (segment-near-iff cornerLimit (segment k) .0 e))) in
+            answered (k + m) (stays k (moves k ∙ ap at (stayed over k)) m k (walked k (omega arith) f)) over;
+      }
 
 -- ---- refusals: those of the list and the width, and then 5
 
@@ -161,6 +130,14 @@ module _ (refusal count : ℕ) (segment : ℕ → Segment) (place : ℕ) where
         λ h. let none = eqb-iff refusal 0 .0 e in absurd (omega (arith, none, h)),
       )
       by false e = (λ h. h, λ h. h)
+
+-- an answer that is chosen by a refusal tells that refusal
+pub refusal-told : {A : Type 0} (told : A → ℕ) (n : ℕ) {answer refused : A} → told answer ≡ 0 → told refused ≡ n → told (cond (eqb n 0) answer refused) ≡ n
+refusal-told {A} told n {answer} {refused} none some = by (eqb n 0) refl
+  where
+    by : (t : Bool) → eqb n 0 ≡ t → told (cond t answer refused) ≡ n
+    by true e = none ∙ sym (eqb-iff n 0 .0 e)
+    by false e = some
 
 -- the values tell answers apart
 abbrev back : StepValues → Step

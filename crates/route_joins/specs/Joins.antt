@@ -51,7 +51,10 @@ openCount cs = pointCount cs - 1
 abbrev pub closedCount : List ℤ → ℕ
 closedCount cs = pointCount cs
 
--- ---- a route, open or closed; a closed one has the offset None
+-- ---- a route, open or closed; a closed one has the offset None, but for a walk along it
+
+unfoldable pub segmentOf : Bool → List ℤ → ℤ → Offset → ℕ → Segment
+segmentOf closed cs w o = cond closed (closedSegment cs w o) (openSegment cs w)
 
 unfoldable pub joinAt : Bool → List ℤ → ℤ → ℕ → Join
 joinAt closed cs w i = cond closed (closedJoin cs w None i) (openJoin cs w i)

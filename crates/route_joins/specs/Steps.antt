@@ -1,16 +1,21 @@
 -- What a step of a walk answers, and where it leaves the walk. A walk is its segments by their place, and how many there are.
-use mathlib.Core.Bool.{cond}
-use Prim.Native.Nat.{ℕ, zero, suc, _+_}
+use mathlib.Core.Path.{_≡_}
+use mathlib.Core.Bool.{Bool, cond}
+use mathlib.Core.List.{List}
+use Prim.Native.Nat.{ℕ, zero, suc, _+_, _<_}
 use lib.Dec.{eqb, ltb}
-use lib.IntN.{pos}
-use Rattle.shapes.specs.Limits.{cornerLimit}
+use lib.IntN.{ℤ, pos}
+use Rattle.shapes.specs.Limits.{pointLimit, cornerLimit}
 use Rattle.shapes.specs.Refusals.{cornerRefused}
+use Rattle.shapes.specs.declared.Offset.{Offset}
 use Rattle.shapes.specs.Shape.{pointOf}
 use Rattle.line_join.specs.declared.Corners.{Corners}
 use Rattle.line_join.specs.declared.Join.{Join}
 use Rattle.line_join.specs.declared.Kind.the-variants as kind
 use Rattle.thick_segment.specs.declared.Segment.{Segment}
-use Rattle.thick_segment.specs.Segments.{isSegmentNear}
+use Rattle.thick_segment.specs.Segments.{SegmentNear, isSegmentNear}
+use Rattle.coordinates.specs.Refusal.{routeRefusal}
+use Rattle.route_joins.specs.Joins.{segmentCount, segmentOf}
 use Rattle.route_joins.specs.declared.Step.{Step}
 use Rattle.route_joins.specs.declared.Step.the-variants.{Drawn, End, Refused}
 
@@ -47,11 +52,27 @@ unfoldable pub stepAt : ℕ → ℕ → (ℕ → Segment) → ℕ → StepValues
 stepAt refusal count segment place =
     cond (eqb refusal 0) (cond (ltb place count) (checked (segment place)) (stepValues End)) (stepValues (Refused refusal))
 
+-- of a route, open or closed: the offset is a closed walk's, an open one has None always
+unfoldable pub routeStep : Bool → List ℤ → ℤ → Offset → ℕ → StepValues
+routeStep closed cs w o place = stepAt (routeRefusal pointLimit closed cs w) (segmentCount closed cs) (segmentOf closed cs w o) place
+
 -- the walk moves on where a segment was answered, and nowhere else
 unfoldable pub placeFrom : StepValues → ℕ → ℕ
 placeFrom v place = cond (eqb (v .found) 1) (place + 1) place
 
--- the place after n steps
-unfoldable pub placeAt : ℕ → ℕ → (ℕ → Segment) → ℕ → ℕ
-placeAt refusal count segment zero = 0
-placeAt refusal count segment (suc n) = let at = placeAt refusal count segment n in placeFrom (stepAt refusal count segment at) at
+-- ---- many steps
+
+-- the walk after n steps
+unfoldable pub afterSteps : {W : Type 0} → (W → W) → W → ℕ → W
+afterSteps after walk zero = walk
+afterSteps after walk (suc n) = after (afterSteps after walk n)
+
+-- a walk, segment by segment: what the steps from its first one on answer, where `answer` and `after` say what a step does
+pub record SegmentBySegment {W : Type 0} (answer : W → StepValues) (after : W → W) (begun : W) (count : ℕ) (segment : ℕ → Segment) : Type 0 where
+  -- the k-th step answers the segment at place k
+  pub drawn : (k : ℕ) → k < count → ((j : ℕ) → j < k + 1 → SegmentNear cornerLimit (segment j)) → answer (afterSteps after begun k) ≡ stepValues (Drawn (segment k))
+  -- after the last segment comes the end, for ever
+  pub ends : ((j : ℕ) → j < count → SegmentNear cornerLimit (segment j)) → (m : ℕ) → answer (afterSteps after begun (count + m)) ≡ stepValues End
+  -- refused with 5 at a segment, it is refused with 5 for ever
+  pub refuses : (k : ℕ) → k < count → ((j : ℕ) → j < k → SegmentNear cornerLimit (segment j)) → (SegmentNear cornerLimit (segment k) → ⊥)
+      → (m : ℕ) → answer (afterSteps after begun (k + m)) ≡ stepValues (Refused cornerRefused)

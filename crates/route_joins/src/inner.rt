@@ -1,21 +1,28 @@
-//! Joins and segments by their place, of a list and a width that are known to be within the limits.
+//! Joins and segments by their place, of a list and a width that are known to be within the limits; and the step of every walk,
+//! which tests them first.
 ghost use mathlib.Core.Path.{_≡_};
 ghost use Prim.Native.Nat.{_+_, _≤_, _<_};
 ghost use Rattle.shapes.specs.Limits.{pointLimit, cornerLimit};
 ghost use Rattle.line_join.specs.Miter.{Thin};
 ghost use Rattle.coordinates.specs.Points.{pointCount};
-ghost use Rattle.coordinates.specs.Refusal.{AllWithin};
+ghost use Rattle.coordinates.specs.Refusal.{AllWithin, Accepted};
 ghost use Rattle.route_joins.specs.Joins.{openJoin, closedJoin, bendAt, placeAfter, placeBefore};
-ghost use Rattle.route_joins.specs.Joins.{openSegment, closedSegment, openCount, closedCount, joinAt, areJoinsNear};
+ghost use Rattle.route_joins.specs.Joins.{openSegment, closedSegment, segmentOf, openCount, closedCount, segmentCount, joinAt, areJoinsNear};
+ghost use Rattle.route_joins.specs.Steps.{stepValues, routeStep, placeFrom};
+use crate::Placed;
+use crate::Step;
 use coordinates::inner::point_at;
 use coordinates::point_count;
+use coordinates::refusal;
 use line_join::Join;
 use line_join::inner::end;
 use line_join::inner::from_points;
 use line_join::inner::is_join_near;
 use line_join::inner::start;
 use shapes::Offset;
+use shapes::refusals::CORNER;
 use thick_segment::Segment;
+use thick_segment::inner::is_segment_near;
 
 /// The place after `i` of `count`, round the route.
 pub fn place_after(count: usize, i: usize) -> usize
@@ -185,4 +192,65 @@ pub fn are_joins_near(coordinates: &[i64], width: i64, closed: bool) -> bool
         }
     }
     true
+}
+
+/// How many segments a route has, open or closed.
+fn segment_count(coordinates: &[i64], closed: bool) -> usize
+    ensures { λ r. ⌜ r ≡ segmentCount closed (now (coordinates .entry)) ⌝ }
+{
+    if closed {
+        return closed_count(coordinates);
+    }
+    open_count(coordinates)
+}
+
+/// The segment at place `k` of a route, open or closed; the offset is a closed route's.
+fn segment_of(coordinates: &[i64], width: i64, closed: bool, offset: Offset, k: usize) -> Segment
+    requires { ⌜ Accepted pointLimit closed (now coordinates) width ⌝ }
+    requires { ⌜ k < segmentCount closed (now coordinates) ⌝ }
+    ensures { λ r. ⌜ r ≡ segmentOf closed (now (coordinates .entry)) width offset k ⌝ }
+{
+    if closed {
+        return closed_segment(coordinates, width, offset, k);
+    }
+    open_segment(coordinates, width, k)
+}
+
+/// The step of a walk, open or closed: the segment at the place, or the end past the last one, and the place after it. Refused as
+/// the list and the width are, and then with 5 if a join of the segment has a corner beyond 4,095: the place then stays.
+pub fn step_at(
+    coordinates: &[i64],
+    width: i64,
+    closed: bool,
+    offset: Offset,
+    place: usize,
+) -> Placed
+    ensures answers { λ r. ⌜ stepValues (r .step) ≡ routeStep closed (now (coordinates .entry)) width offset place ⌝ }
+    ensures moves { λ r. ⌜ r .place ≡ placeFrom (stepValues (r .step)) place ⌝ }
+{
+    let number = refusal(coordinates, width, closed);
+    if 0 < number {
+        return Placed {
+            step: Step::Refused(number),
+            place,
+        };
+    }
+    if place < segment_count(coordinates, closed) {
+        let segment = segment_of(coordinates, width, closed, offset, place);
+        let further = place + 1;
+        if is_segment_near(segment) {
+            return Placed {
+                step: Step::Drawn(segment),
+                place: further,
+            };
+        }
+        return Placed {
+            step: Step::Refused(CORNER),
+            place,
+        };
+    }
+    Placed {
+        step: Step::End,
+        place,
+    }
 }

@@ -1,6 +1,6 @@
 //! The joins and the segments of a route, each by its place, and what a step of a walk answers. The walks and a route's rows stand
 //! on it; it has no entries of its own.
-pub mod inner; // inner.rt: joins and segments of a list that is known to be within the limits
+pub mod inner; // inner.rt: joins and segments by their place, and the step of every walk
 
 use thick_segment::Segment;
 
@@ -12,4 +12,10 @@ pub enum Step {
     End,
     /// Nothing was worked out; the number says why.
     Refused(u64),
+}
+
+/// What a step of a walk answers, and the place after it: one further if a segment was answered, else the same.
+pub struct Placed {
+    pub step: Step,
+    pub place: usize,
 }

@@ -1,10 +1,10 @@
--- `next_segment` from a start: the k-th step answers the polyline's k-th segment, then comes the end for ever; a walk that is refused with
--- 5 stays where it is. Refusals are those of the list and the width, and then 5. Assumes nothing.
-use mathlib.Core.Path.{_≡_, sym, ap, _∙_}
+-- `next_segment` from a start: the segments that the Rust's gives, in turn. Refusals are those of the list and the width, and then 5.
+-- Assumes nothing.
+use mathlib.Core.Path.{_≡_, refl, sym, ap, _∙_}
 use mathlib.Core.Logic.{_↔_}
 use mathlib.Core.Bool.{false}
 use mathlib.Core.List.{List}
-use Prim.Native.Nat.{ℕ, zero, suc, _+_, _≤_, _<_}
+use Prim.Native.Nat.{ℕ, _+_, _≤_, _<_}
 use native.Mathlib.Omega.{arith}
 use borrow.Author.Tests.{eq-eqb}
 use lib.IntN.{ℤ}
@@ -16,53 +16,51 @@ use Rattle.thick_segment.specs.declared.Segment.{Segment}
 use Rattle.thick_segment.specs.Segments.{SegmentNear}
 use Rattle.coordinates.specs.Refusal.{routeRefusal, Accepted}
 use Rattle.coordinates.proofs.Laws.{refused-most, accepted-exactly}
-use Rattle.route_joins.specs.declared.Step.the-variants.{Drawn, End, Refused}
+use Rattle.route_joins.specs.declared.Step.the-variants.{Drawn}
 use Rattle.route_joins.specs.Joins.{openSegment, openCount}
-use Rattle.route_joins.specs.Steps.{stepValues, stepAt, placeAt}
-use Rattle.route_joins.proofs.Walks.{step-answers, step-ends, step-refuses, five-exactly, others-exactly}
+use Rattle.route_joins.specs.Steps.{stepValues, afterSteps, SegmentBySegment}
+use Rattle.route_joins.proofs.Walks.{segments-in-turn, five-exactly, others-exactly}
+use Rattle.thick_segment_iter.specs.Walks.{walkRefusal, stepOf as openStep, walkAfter as afterOpen}
 use Rattle.scanline_intersections.specs.declared.Intersections.{Intersections}
 use Rattle.scanline_intersections.specs.Merging.{walkOf}
 use Rattle.scanline_intersections.specs.Polyline.{pointsOf, polylineSegments}
-use Rattle.scanline_intersections.specs.Answers.{listRefusal, startRefusal, startAnswer, stepOf, walkAfter, walkAt}
+use Rattle.scanline_intersections.specs.Answers.{listRefusal, startRefusal, startAnswer, stepOf, walkAfter}
 use Rattle.scanline_intersections.proofs.Polyline.{polyline-at}
 use Rattle.scanline_intersections.proofs.Refused.{replaced, start-sound}
 
 -- ---- many steps, from a start that is not refused
 
 module _ (cs : List ℤ) (w row : ℤ) (accepted : Accepted pointLimit false cs w) (on : Within row cornerLimit) where
-  abbrev near : ℕ → Type 0
-  near j = SegmentNear cornerLimit (openSegment cs w j)
-
   none : listRefusal cs w ≡ 0
   unfolding listRefusal
   none = accepted-exactly pointLimit false cs w .1 accepted
 
-  from-start : startAnswer cs w row ≡ record { refusal = 0; walk = walkOf 0 w (newSpan row) }
+  -- at a place, with nothing gathered
+  abbrev at : ℕ → Intersections
+  at p = walkOf p w (newSpan row)
+
+  begun : startAnswer cs w row .walk ≡ at 0
   unfolding startAnswer
-  from-start = rw (eq-eqb (startRefusal cs w row) 0 (start-sound cs w row .1 (accepted, on)))
+  begun = rw (eq-eqb (startRefusal cs w row) 0 (start-sound cs w row .1 (accepted, on)))
 
-  -- the walk after n steps is at the place that the walk's definition gives, with nothing gathered
-  at-place : (n : ℕ) → walkAt cs w row n ≡ walkOf (placeAt 0 (openCount cs) (openSegment cs w) n) w (newSpan row)
-  unfolding walkAt walkAfter stepOf placeAt
-  at-place zero = ap (λ r. r .walk) from-start
-  at-place (suc n) = rw (at-place n, none)
-
-  answered : (n : ℕ) → stepOf cs (walkAt cs w row n) ≡ stepAt 0 (openCount cs) (openSegment cs w) (placeAt 0 (openCount cs) (openSegment cs w) n)
-  unfolding stepOf
-  answered n = rw (at-place n, none)
+  pub segment-by-segment : SegmentBySegment (stepOf cs) (walkAfter cs) (startAnswer cs w row .walk) (openCount cs) (openSegment cs w)
+  unfolding stepOf walkAfter
+  segment-by-segment = segments-in-turn (stepOf cs) (walkAfter cs) at (openCount cs) (openSegment cs w) (λ p. rw none) (λ p. rw none) begun
 
   -- the k-th step answers the k-th segment that the Rust's `next_segment` gives
-  pub steps-drawn : (d : Segment) (k : ℕ) → k < openCount cs → ((j : ℕ) → j < k + 1 → near j)
-      → stepOf cs (walkAt cs w row k) ≡ stepValues (Drawn (getD (polylineSegments w (pointsOf cs)) k d))
-  steps-drawn d k h f = answered k ∙ step-answers (openCount cs) (openSegment cs w) k h f ∙ ap (λ s. stepValues (Drawn s)) (sym (polyline-at cs w d k h))
+  pub steps-drawn : (d : Segment) (k : ℕ) → k < openCount cs → ((j : ℕ) → j < k + 1 → SegmentNear cornerLimit (openSegment cs w j))
+      → stepOf cs (afterSteps (walkAfter cs) (startAnswer cs w row .walk) k) ≡ stepValues (Drawn (getD (polylineSegments w (pointsOf cs)) k d))
+  steps-drawn d k h f = segment-by-segment .drawn k h f ∙ ap (λ s. stepValues (Drawn s)) (sym (polyline-at cs w d k h))
 
-  -- after the last segment comes the end, for ever
-  pub steps-end : ((j : ℕ) → j < openCount cs → near j) → (m : ℕ) → stepOf cs (walkAt cs w row (openCount cs + m)) ≡ stepValues End
-  steps-end f m = answered (openCount cs + m) ∙ step-ends (openCount cs) (openSegment cs w) f m
+-- ---- the open walk at the same place with the same width answers the same, whatever the list, and goes to the same place
 
-  -- refused with 5 at a segment, it is refused with 5 for ever
-  pub steps-refused : (k : ℕ) → k < openCount cs → ((j : ℕ) → j < k → near j) → (near k → ⊥) → (m : ℕ) → stepOf cs (walkAt cs w row (k + m)) ≡ stepValues (Refused 5)
-  steps-refused k h f far m = answered (k + m) ∙ step-refuses (openCount cs) (openSegment cs w) k h f far m
+pub steps-equal : (cs : List ℤ) (walk : Intersections) → stepOf cs walk ≡ openStep cs (record { place = walk .place; width = walk .width })
+unfolding stepOf openStep listRefusal walkRefusal
+steps-equal cs walk = refl
+
+pub places-equal : (cs : List ℤ) (walk : Intersections) → walkAfter cs walk .place ≡ afterOpen cs (record { place = walk .place; width = walk .width }) .place
+unfolding walkAfter afterOpen
+places-equal cs walk = rw (steps-equal cs walk)
 
 -- ---- the refusals of a step
 

@@ -1,7 +1,7 @@
 -- The entries' answers. A refusal has 0 in every other field, but the walk handed in comes back as it was.
 use mathlib.Core.Bool.{false, cond}
 use mathlib.Core.List.{List}
-use Prim.Native.Nat.{ℕ, zero, suc}
+use Prim.Native.Nat.{ℕ}
 use lib.Dec.{eqb}
 use lib.IntN.{ℤ, pos}
 use Rattle.whole.specs.Number.{isWithin}
@@ -39,11 +39,6 @@ stepOf cs walk = stepAt (listRefusal cs (walk .width)) (openCount cs) (openSegme
 -- one place further where a segment was answered, else as it was
 unfoldable pub walkAfter : List ℤ → Intersections → Intersections
 walkAfter cs walk = walkOf (placeFrom (stepOf cs walk) (walk .place)) (walk .width) (walk .span)
-
--- the walk after n steps from a start
-unfoldable pub walkAt : List ℤ → ℤ → ℤ → ℕ → Intersections
-walkAt cs w row zero = startAnswer cs w row .walk
-walkAt cs w row (suc n) = walkAfter cs (walkAt cs w row n)
 
 -- ---- next: then 5, on all joins of the route; then 6 and 7, of the walk's span
 

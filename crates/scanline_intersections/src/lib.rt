@@ -10,17 +10,17 @@ use coordinates::refusal;
 use inner::merge;
 use route_joins::Step;
 use route_joins::inner::are_joins_near;
-use route_joins::inner::open_count;
-use route_joins::inner::open_segment;
+use route_joins::inner::step_at;
 use scanline::try_take;
+use shapes::Offset;
 use shapes::Span;
 use shapes::refusals::CORNER;
 use shapes::refusals::ROW;
-use thick_segment::inner::is_segment_near;
 use whole::inner::within;
 
 /// A walk along the segments of an open route on one row: the place of the next segment, the stroke's width, and the span that is
-/// being gathered, on the row.
+/// being gathered, on the row. Any numbers may be handed in: a place past the last segment is the end, and a bad width, row or
+/// column is refused by the entry that looks at it.
 pub struct Intersections {
     pub place: usize,
     pub width: i64,
@@ -33,7 +33,7 @@ pub struct Started {
     pub walk: Intersections,
 }
 
-/// What a step answers, and the walk after it.
+/// What a step answers, and the walk after it: one place further if a segment was answered, else as it was.
 pub struct Stepped {
     pub step: Step,
     pub walk: Intersections,
@@ -83,7 +83,8 @@ pub fn start(coordinates: &[i64], width: i64, row: i64) -> Started
 }
 
 /// The segment at the walk's place, and the walk one place further; or the end, past the last segment. The list and the walk's
-/// width are refused with 1 to 4; then a segment of which a join has a corner beyond 4,095 with 5.
+/// width are refused with 1 to 4; then a segment of which a join has a corner beyond 4,095 with 5: the walk then stays where it
+/// is. The gathered span and its row are not looked at.
 pub fn next_segment(coordinates: &[i64], walk: Intersections) -> Stepped
     ensures answers { λ r. ⌜ stepValues (r .step) ≡ stepOf (now (coordinates .entry)) walk ⌝ }
     ensures moves { λ r. ⌜ r .walk ≡ walkAfter (now (coordinates .entry)) walk ⌝ }
@@ -91,33 +92,16 @@ pub fn next_segment(coordinates: &[i64], walk: Intersections) -> Stepped
     let place = walk.place;
     let width = walk.width;
     let span = walk.span;
-    let number = refusal(coordinates, width, false);
-    if number != 0 {
-        return Stepped {
-            step: Step::Refused(number),
-            walk,
-        };
-    }
-    if place < open_count(coordinates) {
-        let segment = open_segment(coordinates, width, place);
-        if is_segment_near(segment) {
-            return Stepped {
-                step: Step::Drawn(segment),
-                walk: Intersections {
-                    place: place + 1,
-                    width,
-                    span,
-                },
-            };
-        }
-        return Stepped {
-            step: Step::Refused(CORNER),
-            walk,
-        };
-    }
+    let stepped = step_at(coordinates, width, false, Offset::None, place);
+    let step = stepped.step;
+    let further = stepped.place;
     Stepped {
-        step: Step::End,
-        walk,
+        step,
+        walk: Intersections {
+            place: further,
+            width,
+            span,
+        },
     }
 }
 

@@ -1,7 +1,7 @@
 -- 01, thick_segment_iter.rs: n points, n - 1 segments, offset None always.
 use mathlib.Core.Bool.{false, cond}
 use mathlib.Core.List.{List}
-use Prim.Native.Nat.{ℕ, zero, suc}
+use Prim.Native.Nat.{ℕ}
 use lib.Dec.{eqb}
 use lib.IntN.{ℤ, pos}
 use Rattle.shapes.specs.Limits.{pointLimit}
@@ -25,8 +25,3 @@ stepOf cs walk = stepAt (walkRefusal cs (walk .width)) (openCount cs) (openSegme
 
 unfoldable pub walkAfter : List ℤ → Walk → Walk
 walkAfter cs walk = record { place = placeFrom (stepOf cs walk) (walk .place); width = walk .width }
-
--- the walk after n steps from a start
-unfoldable pub walkAt : List ℤ → ℤ → ℕ → Walk
-walkAt cs w zero = started cs w .walk
-walkAt cs w (suc n) = walkAfter cs (walkAt cs w n)

@@ -4,10 +4,8 @@ ghost use Rattle.route_joins.specs.Steps.{stepValues};
 ghost use Rattle.thick_segment_iter.specs.Walks.{started, stepOf, walkAfter};
 use coordinates::refusal;
 use route_joins::Step;
-use route_joins::inner::open_count;
-use route_joins::inner::open_segment;
-use shapes::refusals::CORNER;
-use thick_segment::inner::is_segment_near;
+use route_joins::inner::step_at;
+use shapes::Offset;
 
 /// A walk: the place of its next segment, and the width of the stroke. Any numbers may be handed in: a place past the last
 /// segment is the end, and a width outside 0 to 64 is refused.
@@ -54,33 +52,14 @@ pub fn step(coordinates: &[i64], walk: Walk) -> Stepped
 {
     let place = walk.place;
     let width = walk.width;
-    let number = refusal(coordinates, width, false);
-    if 0 < number {
-        return Stepped {
-            step: Step::Refused(number),
-            walk,
-        };
-    }
-    if place < open_count(coordinates) {
-        let segment = open_segment(coordinates, width, place);
-        let further = place + 1;
-        let next = Walk {
+    let stepped = step_at(coordinates, width, false, Offset::None, place);
+    let step = stepped.step;
+    let further = stepped.place;
+    Stepped {
+        step,
+        walk: Walk {
             place: further,
             width,
-        };
-        if is_segment_near(segment) {
-            return Stepped {
-                step: Step::Drawn(segment),
-                walk: next,
-            };
-        }
-        return Stepped {
-            step: Step::Refused(CORNER),
-            walk,
-        };
-    }
-    Stepped {
-        step: Step::End,
-        walk,
+        },
     }
 }

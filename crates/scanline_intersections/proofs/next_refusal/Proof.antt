@@ -1,27 +1,27 @@
 -- `scanline_intersections::next_refusal` meets its contract. Assumes nothing.
 use mathlib.Core.Path.{_≡_, refl, sym, ap, _∙_}
-use mathlib.Core.Bool.{Bool, true, false}
-use borrow.Author.Tests.{eqb-true, ne-eqb}
-use lib.Dec.{eqb}
+use mathlib.Core.Bool.{false}
+use borrow.Author.Tests.{ne-eqb}
 use mir.Syntax.{w64}
 use mir.Facts.{toZ-ofZ}
 use Rattle.shapes.specs.declared.Span.{Span}
 use Rattle.shapes.specs.Limits.{pointLimit, cornerLimit}
+use Rattle.scanline.specs.declared.Taken.{Taken}
 use Rattle.scanline.specs.Answers.{spanRefusal, tryTakeAnswer}
 use Rattle.line_join.proofs.Room.{thin-held, thin-back}
 use Rattle.coordinates.specs.Refusal.{routeRefusal, Accepted}
 use Rattle.coordinates.proofs.Laws.{accepted-exactly}
 use Rattle.route_joins.specs.Joins.{areJoinsNear}
+use Rattle.route_joins.proofs.Walks.{refusal-told}
 use Rattle.scanline_intersections.specs.Answers.{listRefusal, nextRefusal}
 use borrow.Author.Needs.{needs}
 use Rattle.scanline_intersections.proofs.next_refusal.Statement.{statement}
 use Rattle.scanline_intersections.proofs.next_refusal.Tie as tie
 
 -- `try_take` tells the refusal of its span
-taken-by : (s : Span) (t : Bool) → eqb (spanRefusal s) 0 ≡ t → tryTakeAnswer s .refusal ≡ spanRefusal s
+taken : (s : Span) → tryTakeAnswer s .refusal ≡ spanRefusal s
 unfolding tryTakeAnswer
-taken-by s true e = rw e (sym (eqb-true (spanRefusal s) 0 e))
-taken-by s false e = rw e
+taken s = refusal-told {A = Taken} (λ r. r .refusal) (spanRefusal s) refl refl
 
 told : (c : tie.After-refusal) → let a = c .before .before .args in c .refusal .result ≡ listRefusal (a .coordinates .now) (a .walk .width)
 unfolding listRefusal
@@ -53,7 +53,7 @@ try-take-requires c κs = search needs
 
 returns-2 : tie.Need-returns-2
 unfolding nextRefusal
-returns-2 c = let t = c .before .before in let s = t .before .before .before .before .before .args .walk .span in ap (λ r. r .refusal) (c .try-take .ensures) ∙ taken-by s (eqb (spanRefusal s) 0) refl ∙ simp (none (t .before .before), near-is (t .before) ∙ t .if2 .taken)
+returns-2 c = let t = c .before .before in let s = t .before .before .before .before .before .args .walk .span in ap (λ r. r .refusal) (c .try-take .ensures) ∙ taken s ∙ simp (none (t .before .before), near-is (t .before) ∙ t .if2 .taken)
 
 returns-3 : tie.Need-returns-3
 unfolding nextRefusal

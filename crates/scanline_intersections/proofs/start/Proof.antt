@@ -4,11 +4,6 @@ use borrow.Author.Tests.{ne-eqb}
 use mir.Facts.{toZ-ofZ}
 use Rattle.whole.proofs.Spans.{of-bits}
 use Rattle.scanline_intersections.specs.Answers.{startRefusal, startAnswer}
--- `scanline_intersections::start` meets its contract. Assumes nothing.
-use mathlib.Core.Path.{_≡_, sym, _∙_}
-use borrow.Author.Tests.{ne-eqb}
-use mir.Facts.{toZ-ofZ}
-use Rattle.scanline_intersections.specs.Answers.{startAnswer}
 use borrow.Author.Needs.{needs}
 use Rattle.scanline_intersections.proofs.start.Statement.{statement}
 use Rattle.scanline_intersections.proofs.start.Tie as tie

@@ -1,8 +1,8 @@
-use mir.Syntax.{w64}
-use mir.Val.{toZ, ofZ}
 -- `route_joins::inner::closed_segment` meets its contract. Assumes nothing.
 use mathlib.Core.Path.{_≡_, ap, _∙_}
 use Prim.Native.Nat.{ℕ}
+use mir.Syntax.{w64}
+use mir.Val.{toZ, ofZ}
 use Rattle.line_join.proofs.Room.{thin-held, thin-back}
 use Rattle.coordinates.specs.Points.{pointCount}
 use Rattle.route_joins.specs.Joins.{placeAfter, closedJoin, closedSegment}

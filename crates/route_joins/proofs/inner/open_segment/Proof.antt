@@ -1,10 +1,10 @@
-use mir.Syntax.{w64}
-use mir.Val.{toZ, ofZ}
-use borrow.Author.Needs.{needs}
 -- `route_joins::inner::open_segment` meets its contract. Assumes nothing.
 use mathlib.Core.Path.{_≡_, ap, _∙_}
 use native.Mathlib.Omega.{arith}
 use Prim.Native.Nat.{ℕ, _+_}
+use mir.Syntax.{w64}
+use mir.Val.{toZ, ofZ}
+use borrow.Author.Needs.{needs}
 use Rattle.line_join.proofs.Room.{thin-held, thin-back}
 use Rattle.coordinates.proofs.Lists.{count-within}
 use Rattle.route_joins.specs.Joins.{openJoin, openSegment}

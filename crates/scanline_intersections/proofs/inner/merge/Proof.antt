@@ -15,7 +15,6 @@ use Rattle.scanline.specs.Spans.{tryExtended}
 use Rattle.line_join.proofs.Room.{thin-held, thin-back}
 use Rattle.thick_segment.specs.Segments.{SegmentNear, spanOn}
 use Rattle.route_joins.specs.Joins.{openCount, openSegment, areJoinsNear}
-use Rattle.scanline_intersections.specs.declared.Merged.{Merged}
 use Rattle.scanline_intersections.specs.Segments.{spansFrom}
 use Rattle.scanline_intersections.specs.Merging.{mergedNext, nextMerged}
 use Rattle.scanline_intersections.proofs.Spans.{segment-near, merged-more, merged-stop, merged-end}

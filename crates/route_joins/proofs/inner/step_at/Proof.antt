@@ -1,0 +1,109 @@
+-- `route_joins::inner::step_at` meets its contract. Assumes nothing.
+use mathlib.Core.Path.{_≡_, refl, sym, ap, _∙_}
+use Prim.Native.Nat.{ℕ, _<_}
+use native.Mathlib.Omega.{arith}
+use borrow.Author.Needs.{needs}
+use mir.Facts.{toZ-ofZ}
+use Rattle.shapes.specs.Limits.{pointLimit, cornerLimit}
+use Rattle.thick_segment.specs.declared.Segment.{Segment}
+use Rattle.thick_segment.specs.Segments.{isSegmentNear}
+use Rattle.coordinates.specs.Refusal.{routeRefusal, Accepted}
+use Rattle.coordinates.proofs.Laws.{accepted-exactly}
+use Rattle.route_joins.specs.declared.Step.the-variants.{Drawn, Refused}
+use Rattle.route_joins.specs.Joins.{segmentCount, segmentOf}
+use Rattle.route_joins.specs.Steps.{stepValues, routeStep, placeFrom}
+use Rattle.route_joins.proofs.Walks.{step-refused, step-end, step-drawn, step-corner}
+use Rattle.route_joins.proofs.inner.step_at.Statement.{statement}
+use Rattle.route_joins.proofs.inner.step_at.Tie as tie
+
+-- the walk, by its refusal, its count and its segments
+abbrev refused : tie.Start → ℕ
+refused s = routeRefusal pointLimit (s .args .closed) (s .args .coordinates .now) (s .args .width)
+
+abbrev count : tie.Start → ℕ
+count s = segmentCount (s .args .closed) (s .args .coordinates .now)
+
+abbrev segment : tie.Start → ℕ → Segment
+segment s = segmentOf (s .args .closed) (s .args .coordinates .now) (s .args .width) (s .args .offset)
+
+-- what the calls say
+told : (c : tie.After-refusal) → c .refusal .result ≡ refused (c .before)
+told c = let s = c .before in c .refusal .ensures ∙ ap (routeRefusal pointLimit (s .args .closed) (s .args .coordinates .now)) (toZ-ofZ (s .fits .width))
+
+none : (c : tie.Else1) → refused (c .before .before) ≡ 0
+none c = omega (arith, told (c .before))
+
+accepted : (c : tie.Else1) → let s = c .before .before in Accepted pointLimit (s .args .closed) (s .args .coordinates .now) (s .args .width)
+accepted c = let s = c .before .before in accepted-exactly pointLimit (s .args .closed) (s .args .coordinates .now) (s .args .width) .0 (none c)
+
+inside : (c : tie.Then2) → let s = c .before .before .before .before in s .args .place < count s
+inside c = omega (arith, c .before .segment-count .ensures)
+
+here : (c : tie.After-segment-of) → let s = c .before .before .before .before .before in c .segment-of .result ≡ segment s (s .args .place)
+here c =
+    let s = c .before .before .before .before .before in
+    c .segment-of .ensures ∙ ap (λ w. segmentOf (s .args .closed) (s .args .coordinates .now) w (s .args .offset) (s .args .place)) (toZ-ofZ (s .fits .width))
+
+near : (c : tie.After-is-segment-near) → let s = c .before .before .before .before .before .before in isSegmentNear cornerLimit (segment s (s .args .place)) ≡ c .is-segment-near .result
+near c = sym (c .is-segment-near .ensures ∙ ap (isSegmentNear cornerLimit) (here (c .before)))
+
+refusal-requires : tie.Need-refusal-requires
+refusal-requires c κs = search needs
+
+returns : tie.Need-returns
+unfolding routeStep placeFrom
+returns c =
+    let s = c .before .before in
+    let e = told (c .before) in
+    (ap (λ n. stepValues (Refused n)) e ∙ sym (step-refused (refused s) (count s) (segment s) (s .args .place) (omega (arith, e))), refl)
+
+segment-count-requires : tie.Need-segment-count-requires
+segment-count-requires c κs = search needs
+
+segment-of-requires : tie.Need-segment-of-requires
+segment-of-requires c κs = (rw (toZ-ofZ (c .before .before .before .before .fits .width)) (accepted (c .before .before)), inside c)
+
+add-further : tie.Need-add-further
+add-further c = search needs
+
+is-segment-near-requires : tie.Need-is-segment-near-requires
+is-segment-near-requires c κs = search needs
+
+returns-2 : tie.Need-returns-2
+unfolding routeStep placeFrom
+returns-2 c =
+    let n = c .before in
+    let t = n .before .before in
+    let e = t .before .before in
+    let s = e .before .before in
+    (ap (λ d. stepValues (Drawn d)) (here (n .before)) ∙ sym (step-drawn (refused s) (count s) (segment s) (s .args .place) (none e) (inside t) (near n ∙ c .if3 .taken)), refl)
+
+returns-3 : tie.Need-returns-3
+unfolding routeStep placeFrom
+returns-3 c =
+    let n = c .before in
+    let t = n .before .before in
+    let e = t .before .before in
+    let s = e .before .before in
+    (sym (step-corner (refused s) (count s) (segment s) (s .args .place) (none e) (inside t) (near n ∙ c .if3 .left)), refl)
+
+returns-4 : tie.Need-returns-4
+unfolding routeStep placeFrom
+returns-4 c =
+    let e = c .before .before in
+    let s = e .before .before in
+    (sym (step-end (refused s) (count s) (segment s) (s .args .place) (none e) (omega (arith, c .before .segment-count .ensures))), refl)
+
+pub step-at-spec : {M : Type 1} → statement M
+step-at-spec =
+    tie.close
+    (tie.spec
+    refusal-requires
+    returns
+    segment-count-requires
+    segment-of-requires
+    add-further
+    is-segment-near-requires
+    returns-2
+    returns-3
+    returns-4)
