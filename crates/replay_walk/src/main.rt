@@ -1,6 +1,7 @@
 //! Answers questions on walks along a route and on its merged spans: one line of standard input, one line of standard output.
 //! What it must write stands in `stdout`, and comes from two other calculations of the same rules (oracle/README.md).
 ghost use Prim.Native.Nat.{_≤_};
+use closed_thick_segment_iter::Walk as ClosedWalk;
 use libc::STDIN_FILENO;
 use replay_joins::say_join;
 use replay_text::after;
@@ -10,9 +11,11 @@ use replay_text::say_next;
 use replay_text::say_number;
 use replay_text::say_refused;
 use route_joins::Step;
+use scanline_intersections::Intersections;
 use scanline_intersections::Merged;
 use shapes::Offset;
 use thick_segment::Segment;
+use thick_segment_iter::Walk as OpenWalk;
 
 fn main() {
     let mut questions = [0u8; 262144];
@@ -102,85 +105,135 @@ fn answer_kind(asked: Asked, coordinates: &[i64]) {
     let offset = asked.offset;
     let row = asked.row;
     match kind {
-        b'O' => say_open(coordinates, width),
-        b'C' => say_closed(coordinates, width, offset),
-        b'N' => say_polyline(coordinates, width),
-        b'M' => say_merged(coordinates, width, row),
+        b'O' => say_all(coordinates, begin_open(coordinates, width)),
+        b'C' => say_all(coordinates, begin_closed(coordinates, width, offset)),
+        b'N' => say_all(coordinates, begin_polyline(coordinates, width)),
+        b'M' => say_all(coordinates, begin_merged(coordinates, width, row)),
         _ => {}
     }
 }
 
-/// The segments of an open route, then the end.
-fn say_open(coordinates: &[i64], width: i64) {
+/// What is left to be told of a walk.
+enum Left {
+    Open(OpenWalk),
+    Closed(ClosedWalk),
+    Polyline(Intersections),
+    Merged(Intersections),
+    /// Its end or its refusal was told.
+    Nothing,
+}
+
+/// Tells a walk to its end: no route has more than 256 segments.
+fn say_all(coordinates: &[i64], begun: Left) {
+    let mut left = begun;
+    let mut turns: usize = 300;
+    while 0 < turns {
+        left = say_more(coordinates, left);
+        turns -= 1;
+    }
+}
+
+fn say_more(coordinates: &[i64], left: Left) -> Left {
+    match left {
+        Left::Open(walk) => say_open(coordinates, walk),
+        Left::Closed(walk) => say_closed(coordinates, walk),
+        Left::Polyline(walk) => say_polyline(coordinates, walk),
+        Left::Merged(walk) => say_merged(coordinates, walk),
+        Left::Nothing => Left::Nothing,
+    }
+}
+
+fn begin_open(coordinates: &[i64], width: i64) -> Left {
     let started = thick_segment_iter::start(coordinates, width);
-    if started.refusal != 0 {
-        say_refused(started.refusal);
-        return;
+    if say_refusal(started.refusal) {
+        return Left::Nothing;
     }
-    let mut walk = started.walk;
-    let mut left: usize = 300;
-    while 0 < left {
-        let stepped = thick_segment_iter::step(coordinates, walk);
-        let step = stepped.step;
-        walk = stepped.walk;
-        left = if say_step(step) { left - 1 } else { 0 };
-    }
+    let walk = started.walk;
+    Left::Open(walk)
 }
 
-/// The segments of a closed route, then the end.
-fn say_closed(coordinates: &[i64], width: i64, offset: Offset) {
+fn begin_closed(coordinates: &[i64], width: i64, offset: Offset) -> Left {
     let started = closed_thick_segment_iter::start(coordinates, width, offset);
-    if started.refusal != 0 {
-        say_refused(started.refusal);
-        return;
+    if say_refusal(started.refusal) {
+        return Left::Nothing;
     }
-    let mut walk = started.walk;
-    let mut left: usize = 300;
-    while 0 < left {
-        let stepped = closed_thick_segment_iter::step(coordinates, walk);
-        let step = stepped.step;
-        walk = stepped.walk;
-        left = if say_step(step) { left - 1 } else { 0 };
-    }
+    let walk = started.walk;
+    Left::Closed(walk)
 }
 
-/// The segments of a polyline, then the end.
-fn say_polyline(coordinates: &[i64], width: i64) {
+fn begin_polyline(coordinates: &[i64], width: i64) -> Left {
     let started = scanline_intersections::start(coordinates, width, 0);
-    if started.refusal != 0 {
-        say_refused(started.refusal);
-        return;
+    if say_refusal(started.refusal) {
+        return Left::Nothing;
     }
-    let mut walk = started.walk;
-    let mut left: usize = 300;
-    while 0 < left {
-        let stepped = scanline_intersections::next_segment(coordinates, walk);
-        let step = stepped.step;
-        walk = stepped.walk;
-        left = if say_step(step) { left - 1 } else { 0 };
-    }
+    let walk = started.walk;
+    Left::Polyline(walk)
 }
 
-/// The merged spans of a polyline on a row, then the end.
-fn say_merged(coordinates: &[i64], width: i64, row: i64) {
+fn begin_merged(coordinates: &[i64], width: i64, row: i64) -> Left {
     let started = scanline_intersections::start(coordinates, width, row);
-    if started.refusal != 0 {
-        say_refused(started.refusal);
-        return;
+    if say_refusal(started.refusal) {
+        return Left::Nothing;
     }
-    let mut walk = started.walk;
-    let mut left: usize = 300;
-    while 0 < left {
-        let merged = scanline_intersections::next(coordinates, walk);
-        walk = merged.walk;
-        left = if say_span(merged) { left - 1 } else { 0 };
+    let walk = started.walk;
+    Left::Merged(walk)
+}
+
+/// One more segment of an open route, or the end.
+fn say_open(coordinates: &[i64], walk: OpenWalk) -> Left {
+    let stepped = thick_segment_iter::step(coordinates, walk);
+    let step = stepped.step;
+    let next = stepped.walk;
+    if say_step(step) {
+        return Left::Open(next);
     }
+    Left::Nothing
+}
+
+/// One more segment of a closed route, or the end.
+fn say_closed(coordinates: &[i64], walk: ClosedWalk) -> Left {
+    let stepped = closed_thick_segment_iter::step(coordinates, walk);
+    let step = stepped.step;
+    let next = stepped.walk;
+    if say_step(step) {
+        return Left::Closed(next);
+    }
+    Left::Nothing
+}
+
+/// One more segment of a polyline, or the end.
+fn say_polyline(coordinates: &[i64], walk: Intersections) -> Left {
+    let stepped = scanline_intersections::next_segment(coordinates, walk);
+    let step = stepped.step;
+    let next = stepped.walk;
+    if say_step(step) {
+        return Left::Polyline(next);
+    }
+    Left::Nothing
+}
+
+/// One more merged span of a polyline on a row, or the end.
+fn say_merged(coordinates: &[i64], walk: Intersections) -> Left {
+    let merged = scanline_intersections::next(coordinates, walk);
+    let next = merged.walk;
+    if say_span(merged) {
+        return Left::Merged(next);
+    }
+    Left::Nothing
+}
+
+/// Writes a refusal if there is one; whether there was.
+fn say_refusal(number: u64) -> bool {
+    if number == 0 {
+        return false;
+    }
+    say_refused(number);
+    true
 }
 
 /// Writes the next merged span; whether there may be more.
 fn say_span(merged: Merged) -> bool {
-    if merged.refusal != 0 {
-        say_refused(merged.refusal);
+    if say_refusal(merged.refusal) {
         return false;
     }
     if merged.found {
