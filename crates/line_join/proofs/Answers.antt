@@ -5,7 +5,7 @@ use mathlib.Core.Logic.{_↔_}
 use mathlib.Core.Bool.{Bool, true, false, cond}
 use Prim.Native.Nat.{ℕ}
 use native.Mathlib.Omega.{arith}
-use borrow.Author.Tests.{eqb-true, eq-eqb, ne-eqb}
+use borrow.Author.Tests.{eqb-true, ne-eqb}
 use lib.Dec.{eqb, lit≤}
 use lib.IntN.{ℤ}
 use Rattle.whole.proofs.Tests.{and-iff, eqb-iff, Chosen, chosen, never, bad-first, good-first, good-later}

@@ -1,7 +1,6 @@
 -- `replay_segment::say_rows` is safe and ends. The measure is how many of the six lines are left. Assumes nothing.
 use mathlib.Core.Path.{_≡_}
 use Prim.Native.Nat.{_-_, _≤_}
-use native.Mathlib.Omega.{arith}
 use borrow.Author.Needs.{needs}
 use lib.ListN.{length}
 use Rattle.replay_segment.proofs.say_rows.Statement.{statement}
