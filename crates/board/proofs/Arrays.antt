@@ -2,11 +2,11 @@
 use mathlib.Core.Path.{_≡_, sym, ap, _∙_}
 use mathlib.Core.List.{List, [], _∷_, _++_, append-assoc, map}
 use Prim.Native.Nat.{ℕ, suc, _+_, _-_, _≤_, _<_}
-use native.Mathlib.Nat.{add-zero}
+use native.Mathlib.Nat.{add-zero, zero-add}
 use native.Mathlib.Numerals.{add-one}
 use native.Mathlib.Omega.{arith}
-use lib.ListN.{length, getD, take, drop, set, replicate, length-map, length-drop, drop-of-length-le}
-use lib.Seq.{take-length, take-suc, set-at, length-take-le, drop-cons, getD-take, getD-drop, drop-drop}
+use lib.ListN.{length, getD, take, drop, set, replicate, length-map, length-append, length-take, length-drop, drop-of-length-le}
+use lib.Seq.{take-length, take-suc, set-at, length-take-le, drop-cons, getD-take, getD-drop, drop-drop, paste-suc}
 
 -- a field that is an array of structs: its relation stands at the list of the structs' rows
 pub length-mapped : {A B : Type 0} (f : A → B) (l : List A) (n : ℕ) → length (map f l) ≡ n → length l ≡ n
@@ -20,8 +20,8 @@ module _ {ℓ} {A : Type ℓ} (xs : List A) (n i : ℕ) where
       let long = length-take-le n xs k in
       drop-cons (take n xs) i d (omega arith) ∙ rw (getD-take n xs i d h, add-one)
 
-  pub rest-none : n ≤ i → n ≤ length xs → drop i (take n xs) ≡ []
-  rest-none h k = let long = length-take-le n xs k in drop-of-length-le (take n xs) {i = i} (omega arith)
+  pub rest-none : n ≤ i → drop i (take n xs) ≡ []
+  rest-none h = drop-of-length-le (take n xs) {i = i} (omega (arith, length-take n xs))
 
 -- ---- an array of n filled from the front with a list s: its first j places hold those of s, the others z
 
@@ -29,8 +29,8 @@ module _ {ℓ} {A : Type ℓ} where
   abbrev pub partly : ℕ → A → List A → ℕ → List A
   partly n z s j = take j s ++ replicate (n - j) z
 
-  -- where what is left of s begins with x, so that j is a place of s
-  at-place : (s rest : List A) (j : ℕ) (x : A) → drop j s ≡ x ∷ rest → (j < length s) × (getD s j x ≡ x)
+  -- where what is left of s begins with x, j is a place of s
+  pub at-place : (s rest : List A) (j : ℕ) (x : A) → drop j s ≡ x ∷ rest → (j < length s) × (getD s j x ≡ x)
   at-place s rest j x e =
       let long = ap length e in
       let cut = length-drop j s in
@@ -51,3 +51,21 @@ module _ {ℓ} {A : Type ℓ} where
 
   pub fill-done : (n : ℕ) (z : A) (s : List A) (j : ℕ) → j ≡ length s → partly n z s j ≡ s ++ replicate (n - length s) z
   fill-done n z s j e = rw (e, take-length)
+
+-- ---- a list d written over from the front with a list s: its first j places hold those of s, the others its own
+
+module _ {ℓ} {A : Type ℓ} where
+  abbrev pub pasted : List A → List A → ℕ → List A
+  pasted s d j = take j s ++ drop j d
+
+  pub paste-length : (s d : List A) (j : ℕ) → j ≤ length s → j ≤ length d → length (pasted s d j) ≡ length d
+  paste-length s d j h k = simp (length-append, length-take, length-drop) (omega arith)
+
+  -- one store more, where what is left of s begins with x
+  pub paste-turn : (s d rest : List A) (j : ℕ) (x : A) → j < length d → drop j s ≡ x ∷ rest → set (pasted s d j) j x ≡ pasted s d (j + 1)
+  paste-turn s d rest j x h e =
+      let p = at-place s rest j x e in
+      rw add-one (simp (zero-add, p .1) at (paste-suc d 0 s j x (rw zero-add h) (p .0)))
+
+  pub paste-done : (s d : List A) (j : ℕ) → j ≡ length s → pasted s d j ≡ s ++ drop (length s) d
+  paste-done s d j e = rw (e, take-length)

@@ -1,8 +1,5 @@
 pub mod Arrays
-pub mod Ascend
-pub mod Demand
-pub mod Fewest
-pub mod Halfway
-pub mod Laws
+pub mod Edges
+pub mod Fronts
 pub mod Listing
-pub mod Union
+pub mod Sound

@@ -1,21 +1,20 @@
--- 01, "The board" and the numbers 6, 7 and 8: what each entry answers.
-use mathlib.Core.Bool.{Bool, true, cond, _&&_}
+-- 01, "The board" and the numbers 6, 7 and 8: what each entry answers, for rows and columns from -k to k.
+use mathlib.Core.Bool.{Bool, cond, _&&_}
 use mathlib.Core.List.{List, [], _++_}
-use mathlib.Core.Path.{_≡_}
 use Prim.Native.Nat.{ℕ, _-_, _*_, _≤_}
-use lib.Dec.{eqb, leb}
+use lib.Dec.{leb}
 use lib.IntN.{ℤ, pos}
 use lib.ListN.{length, take, drop, replicate}
-use lib.Signed.{ltZ}
 use Rattle.whole.specs.Number.{Within, isWithin, eqZ}
-use Rattle.shapes.specs.Limits.{cornerLimit, boardRuns}
+use Rattle.shapes.specs.Limits.{boardRuns}
 use Rattle.shapes.specs.Refusals.{rowRefused, columnRefused, roomRefused}
+use Rattle.shapes.specs.Spans.{isEmpty, isSound as isSpanSound}
 use Rattle.shapes.specs.declared.Span.{Span}
 use Rattle.board.specs.declared.Run.{Run}
 use Rattle.board.specs.declared.Board.{Board}
 use Rattle.board.specs.declared.Answer.{Answer}
 use Rattle.board.specs.declared.Listed.{Listed}
-use Rattle.board.specs.Runs.{runOf, edge, follows, Ascending, isAscending, withRun, total, flat}
+use Rattle.board.specs.Runs.{runOf, noRun, edge, Ascending, isAscending, withRun, total, flat}
 
 -- ---- a board and its list of runs
 
@@ -23,90 +22,101 @@ use Rattle.board.specs.Runs.{runOf, edge, follows, Ascending, isAscendin
 unfoldable pub live : Board → List Run
 live b = take (b .count) (b .runs)
 
--- the board of a row and a list of runs, with nothing but 0 after them
+-- a list of runs in an array, with nothing but 0 after them
+unfoldable pub padded : List Run → List Run
+padded rs = rs ++ replicate (boardRuns - length rs) noRun
+
+-- the board of a row and a list of runs
 unfoldable pub boardOf : ℤ → List Run → Board
-boardOf y rs = record { row = y; count = length rs; runs = rs ++ replicate (boardRuns - length rs) (runOf (pos 0) (pos 0)) }
+boardOf y rs = record { row = y; count = length rs; runs = padded rs }
 
 -- 01: "a board handed in whose row, count and runs no fresh board can come to (row outside, more than 32 runs, a run empty
 -- or outside the columns, runs not ascending with a dark column between)" is not sound
-pub record Sound (b : Board) : Type 0 where
-  pub row-near : Within (b .row) cornerLimit
+pub record Sound (k : ℕ) (b : Board) : Type 0 where
+  pub row-near : Within (b .row) k
   pub few : b .count ≤ boardRuns
-  pub ascending : Ascending cornerLimit (edge cornerLimit) (live b)
+  pub ascending : Ascending k (edge k) (live b)
 
 -- the test for that
-unfoldable pub isSound : Board → Bool
-isSound b =
-    isWithin cornerLimit (b .row) && (leb (b .count) boardRuns && isAscending cornerLimit (edge cornerLimit) (live b))
+unfoldable pub isSound : ℕ → Board → Bool
+isSound k b = leb (b .count) boardRuns && (isWithin k (b .row) && isAscending k (edge k) (live b))
+
+-- ---- answers
+
+-- a board, with a refusal's number or 0
+abbrev pub answerOf : ℕ → Board → Answer
+answerOf n b = record { refusal = n; board = b }
+
+-- "A refusal returns its number only, with 0 for every other field of the answer"
+abbrev pub noBoard : Board
+noBoard = record { row = pos 0; count = 0; runs = replicate boardRuns noRun }
+
+abbrev pub notListed : ℕ → Listed
+notListed n = record { refusal = n; count = 0; total = pos 0 }
 
 -- ---- a fresh board
 
-unfoldable pub freshRefusal : ℤ → ℕ
-freshRefusal y = cond (isWithin cornerLimit y) 0 rowRefused
+unfoldable pub begun : ℕ → ℤ → Answer
+begun k y = cond (isWithin k y) (answerOf 0 (boardOf y [])) (answerOf rowRefused noBoard)
 
-unfoldable pub begun : ℤ → Answer
-begun y = record { refusal = freshRefusal y; board = boardOf (cond (isWithin cornerLimit y) y (pos 0)) [] }
+abbrev pub freshRefusal : ℕ → ℤ → ℕ
+freshRefusal k y = begun k y .refusal
 
 -- ---- a span offered
 
 abbrev pub spanRun : Span → Run
 spanRun s = runOf (s .start) (s .end)
 
--- "A span is empty when its end is not above its start"
-abbrev pub isSome : Span → Bool
-isSome s = ltZ (s .start) (s .end)
+-- The answer for a board and a span that no test refuses: an empty span "changes nothing"; 8 is given "exactly when the union with the
+-- offered span would need more than 32 runs".
+unfoldable pub added : Board → Span → Answer
+added b s =
+    let union = withRun (spanRun s) (live b) in
+    cond (isEmpty s) (answerOf 0 b) (cond (leb (length union) boardRuns) (answerOf 0 (boardOf (b .row) union)) (answerOf roomRefused b))
 
--- 7: "a non-empty span has a column outside 4,095" where this is false
-unfoldable pub isInside : Span → Bool
-isInside s = cond (isSome s) (follows cornerLimit (edge cornerLimit) (spanRun s)) true
+-- 6 for the board or the span's row, then 7
+unfoldable pub offered : ℕ → Board → Span → Answer
+offered k b s =
+    cond (isSound k b && eqZ (s .row) (b .row))
+    (cond (isSpanSound k s) (added b s) (answerOf columnRefused b))
+    (answerOf rowRefused b)
 
--- the union of the runs and a span; an empty span "changes nothing"
-unfoldable pub withSpan : Span → List Run → List Run
-withSpan s rs = cond (isSome s) (withRun (spanRun s) rs) rs
-
-unfoldable pub offerRefusal : Board → Span → ℕ
-offerRefusal b s =
-    cond (isSound b && eqZ (s .row) (b .row))
-    (cond (isInside s) (cond (leb (length (withSpan s (live b))) boardRuns) 0 roomRefused) columnRefused)
-    rowRefused
-
--- the board after an accepted span
-unfoldable pub withOffer : Board → Span → Board
-withOffer b s = cond (isSome s) (boardOf (b .row) (withSpan s (live b))) b
-
-unfoldable pub offered : Board → Span → Answer
-offered b s = record { refusal = offerRefusal b s; board = cond (eqb (offerRefusal b s) 0) (withOffer b s) b }
-
--- what an offer that neither 6 nor 7 refuses looks like
-pub record Offerable (b : Board) (s : Span) : Type 0 where
-  pub sound : Sound b
-  pub same-row : s .row ≡ b .row
-  pub inside : isInside s ≡ true
+abbrev pub offerRefusal : ℕ → Board → Span → ℕ
+offerRefusal k b s = offered k b s .refusal
 
 -- ---- a board cleared
 
-unfoldable pub clearRefusal : Board → ℕ
-clearRefusal b = cond (isSound b) 0 rowRefused
+unfoldable pub cleared : ℕ → Board → Answer
+cleared k b = cond (isSound k b) (answerOf 0 (boardOf (b .row) [])) (answerOf rowRefused b)
 
-unfoldable pub cleared : Board → Answer
-cleared b = record { refusal = clearRefusal b; board = cond (isSound b) (boardOf (b .row) []) b }
+abbrev pub clearRefusal : ℕ → Board → ℕ
+clearRefusal k b = cleared k b .refusal
 
 -- ---- a board listed to a lent list of numbers
 
--- "8 if the list has fewer than two numbers, or one record, for each run": here the numbers; n is the list's length
-unfoldable pub listRefusal : Board → ℕ → ℕ
-listRefusal b n = cond (isSound b) (cond (leb (2 * length (live b)) n) 0 roomRefused) rowRefused
+-- "A listing gives the runs and their total"
+abbrev pub listing : Board → Listed
+listing b = record { refusal = 0; count = length (live b); total = total (live b) }
 
-unfoldable pub listed : Board → ℕ → Listed
-listed b n =
-    cond (eqb (listRefusal b n) 0)
-    (record { refusal = 0; count = length (live b); total = total (live b) })
-    (record { refusal = listRefusal b n; count = 0; total = pos 0 })
+-- The answer for a board that no test refuses: "8 if the list has fewer than two numbers, or one record, for each run": here the
+-- numbers; n is the list's length.
+unfoldable pub told : Board → ℕ → Listed
+told b n = cond (leb (2 * length (live b)) n) (listing b) (notListed roomRefused)
 
 -- the runs' numbers, and then what was there: "entries beyond the runs keep their content"
 unfoldable pub over : List ℤ → List Run → List ℤ
 over out rs = flat rs ++ drop (2 * length rs) out
 
 -- what the lent list holds afterwards
-unfoldable pub listedTo : Board → List ℤ → List ℤ
-listedTo b out = cond (eqb (listRefusal b (length out)) 0) (over out (live b)) out
+unfoldable pub toldTo : Board → List ℤ → List ℤ
+toldTo b out = cond (leb (2 * length (live b)) (length out)) (over out (live b)) out
+
+-- 6 before that
+unfoldable pub listed : ℕ → Board → ℕ → Listed
+listed k b n = cond (isSound k b) (told b n) (notListed rowRefused)
+
+abbrev pub listRefusal : ℕ → Board → ℕ → ℕ
+listRefusal k b n = listed k b n .refusal
+
+unfoldable pub listedTo : ℕ → Board → List ℤ → List ℤ
+listedTo k b out = cond (isSound k b) (toldTo b out) out

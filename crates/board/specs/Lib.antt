@@ -1,4 +1,3 @@
 pub mod Boards
 pub mod Fronts
-pub mod Histories
 pub mod Runs

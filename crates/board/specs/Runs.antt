@@ -11,6 +11,10 @@ use Rattle.board.specs.declared.Run.{Run}
 abbrev pub runOf : ℤ → ℤ → Run
 runOf s e = record { start = s; end = e }
 
+-- what stands in an array where there is no run
+abbrev pub noRun : Run
+noRun = runOf (pos 0) (pos 0)
+
 -- ---- the columns of runs
 
 -- "start, end not included"

@@ -1,20 +1,23 @@
 //! What the entries do once their input is tested, for the crates above.
 ghost use mathlib.Core.Path.{_≡_};
 ghost use mathlib.Core.List.{[]};
-ghost use Prim.Native.Nat.{_+_, _-_, _*_, _≤_, _<_};
-ghost use lib.ListN.{length, set};
-ghost use Rattle.shapes.specs.Limits.{cornerLimit, boardRuns};
-ghost use Rattle.board.specs.Runs.{edge, isAscending, withRun, total};
+ghost use Prim.Native.Nat.{_+_, _*_, _≤_, _<_};
+ghost use lib.ListN.{length, getD, set};
+ghost use lib.Signed.{ltZ};
+ghost use Rattle.shapes.specs.Limits.{boardRuns, lineLimit};
+ghost use Rattle.board.specs.Runs.{noRun, edge, isAscending, withRun, total};
 ghost use Rattle.board.specs.Runs.{follows as followsOf, joined as joinedOf};
-ghost use Rattle.board.specs.Boards.{live, boardOf, Sound, isSound, isSome, spanRun, isInside, Offerable, offered, over};
+ghost use Rattle.board.specs.Boards.{live, boardOf, Sound, isSound, answerOf, notListed, spanRun, added, told, toldTo, over};
 ghost use Rattle.board.specs.Fronts.{Gathered, wholeOf};
 use crate::Answer;
 use crate::Board;
+use crate::Listed;
 use crate::Run;
 use shapes::Span;
 use shapes::limits::BOARD_RUNS;
-use shapes::limits::CORNER;
 use shapes::refusals::ROOM;
+use shapes::spans::is_empty;
+use whole::inner::both;
 use whole::inner::greater;
 use whole::inner::lesser;
 use whole::inner::within;
@@ -43,32 +46,56 @@ pub fn empty_board(row: i64) -> Board
     }
 }
 
-/// Whether a run comes after the column `last`, which stays dark, is not empty, and ends inside the columns.
-fn follows(last: i64, run: Run) -> bool
-    ensures { λ r. ⌜ r ≡ followsOf cornerLimit last run ⌝ }
+/// A refusal, with the board as it was.
+pub fn refused(refusal: u64, board: Board) -> Answer
+    ensures { λ r. ⌜ r ≡ answerOf refusal board ⌝ }
 {
-    if last < run.start {
-        if run.start < run.end {
-            return run.end <= CORNER as i64 + 1;
-        }
+    Answer { refusal, board }
+}
+
+/// A listing that is refused: its number, and 0 for the rest.
+pub fn not_listed(refusal: u64) -> Listed
+    ensures { λ r. ⌜ r ≡ notListed refusal ⌝ }
+{
+    Listed {
+        refusal,
+        count: 0,
+        total: 0,
     }
-    false
+}
+
+/// What stands at place `i` of a board's array. It copies the board: a loop that is to be fast reads the array itself.
+pub fn run_at(board: Board, i: usize) -> Run
+    requires { ⌜ i < boardRuns ⌝ }
+    ensures { λ r. ⌜ r ≡ getD (board .runs) i noRun ⌝ }
+{
+    board.runs[i]
+}
+
+/// Whether a run comes after the column `last`, which stays dark, is not empty, and ends inside the columns.
+fn follows(limit: u32, last: i64, run: Run) -> bool
+    ensures { λ r. ⌜ r ≡ followsOf limit last run ⌝ }
+{
+    both(
+        last < run.start,
+        both(run.start < run.end, run.end <= limit as i64 + 1),
+    )
 }
 
 /// Whether the runs ascend inside the columns, none empty, with a dark column between neighbours.
-fn is_ascending(board: Board) -> bool
+fn is_ascending(board: Board, limit: u32) -> bool
     requires { ⌜ board .count ≤ boardRuns ⌝ }
-    ensures { λ r. ⌜ r ≡ isAscending cornerLimit (edge cornerLimit) (live board) ⌝ }
+    ensures { λ r. ⌜ r ≡ isAscending limit (edge limit) (live board) ⌝ }
 {
     let n = board.count;
     let mut last = Run {
         start: 0,
-        end: -(CORNER as i64) - 1,
+        end: -(limit as i64) - 1,
     };
     let mut i: usize = 0;
     while i < n {
         let run = board.runs[i];
-        if follows(last.end, run) {
+        if follows(limit, last.end, run) {
             last = run;
             i += 1;
         } else {
@@ -78,23 +105,14 @@ fn is_ascending(board: Board) -> bool
     true
 }
 
-/// Whether a fresh board can come to this one.
-pub fn is_sound(board: Board) -> bool
-    ensures { λ r. ⌜ r ≡ isSound board ⌝ }
+/// Whether a fresh board can come to this one, where rows and columns are from `-limit` to `limit`.
+pub fn is_sound(board: Board, limit: u32) -> bool
+    ensures { λ r. ⌜ r ≡ isSound limit board ⌝ }
 {
-    if within(board.row, CORNER) {
-        if board.count <= BOARD_RUNS {
-            return is_ascending(board);
-        }
+    if board.count <= BOARD_RUNS {
+        return both(within(board.row, limit), is_ascending(board, limit));
     }
     false
-}
-
-/// Whether a span has a column: its end is above its start.
-fn is_some(span: Span) -> bool
-    ensures { λ r. ⌜ r ≡ isSome span ⌝ }
-{
-    span.start < span.end
 }
 
 /// The columns of a span.
@@ -107,16 +125,6 @@ fn run_of(span: Span) -> Run
     }
 }
 
-/// Whether a span is empty or has all its columns inside.
-pub fn is_inside(span: Span) -> bool
-    ensures { λ r. ⌜ r ≡ isInside span ⌝ }
-{
-    if is_some(span) {
-        return follows(-(CORNER as i64) - 1, run_of(span));
-    }
-    true
-}
-
 /// What two runs become that touch or overlap.
 fn joined(a: Run, b: Run) -> Run
     ensures { λ r. ⌜ r ≡ joinedOf a b ⌝ }
@@ -127,10 +135,17 @@ fn joined(a: Run, b: Run) -> Run
     }
 }
 
+/// Whether a run ends before a column, with a dark column between.
+fn ends_before(run: Run, column: i64) -> bool
+    ensures { λ r. ⌜ r ≡ ltZ (run .end) column ⌝ }
+{
+    run.end < column
+}
+
 /// The board's runs before `run`, and `run` with all that it touches or overlaps.
 fn front_of(board: Board, run: Run) -> Front
     requires { ⌜ board .count ≤ boardRuns ⌝ }
-    ensures { λ r. ⌜ Gathered r (live board) × (wholeOf r (live board) ≡ withRun run (live board)) ⌝ }
+    ensures { λ r. ⌜ Gathered r (live board) (withRun run (live board)) ⌝ }
 {
     let n = board.count;
     let mut runs = [Run { start: 0, end: 0 }; 32];
@@ -139,7 +154,7 @@ fn front_of(board: Board, run: Run) -> Front
     let mut next: usize = 0;
     while next < n {
         let other = board.runs[next];
-        if grown.end < other.start {
+        if ends_before(grown, other.start) {
             return Front {
                 runs,
                 count,
@@ -148,7 +163,7 @@ fn front_of(board: Board, run: Run) -> Front
             };
         }
         next += 1;
-        if other.end < grown.start {
+        if ends_before(other, grown.start) {
             runs[count] = other;
             count += 1;
         } else {
@@ -166,7 +181,7 @@ fn front_of(board: Board, run: Run) -> Front
 /// The whole answer of an offer that is half done: the run, and then the board's runs that are left.
 fn filled(board: Board, front: Front) -> Board
     requires { ⌜ board .count ≤ boardRuns ⌝ }
-    requires { ⌜ Gathered front (live board) ⌝ }
+    requires { ⌜ Gathered front (live board) (wholeOf front (live board)) ⌝ }
     requires { ⌜ length (wholeOf front (live board)) ≤ boardRuns ⌝ }
     ensures { λ r. ⌜ r ≡ boardOf (board .row) (wholeOf front (live board)) ⌝ }
 {
@@ -190,31 +205,29 @@ fn filled(board: Board, front: Front) -> Board
     }
 }
 
-/// The board with the span's columns lit as well; 8, and the board as it was, if the union needs more than 32 runs.
+/// An offer that makes no test: the board with the span's columns lit as well; 8, and the board as it was, if the union needs
+/// more than 32 runs. An empty span changes nothing.
 pub fn offer_sound(board: Board, span: Span) -> Answer
-    requires { ⌜ Offerable board span ⌝ }
-    ensures { λ r. ⌜ r ≡ offered board span ⌝ }
+    requires { ⌜ board .count ≤ boardRuns ⌝ }
+    ensures { λ r. ⌜ r ≡ added board span ⌝ }
 {
-    if is_some(span) {
-        let front = front_of(board, run_of(span));
-        if front.count + (board.count - front.next) < BOARD_RUNS {
-            let next = filled(board, front);
-            return Answer {
-                refusal: 0,
-                board: next,
-            };
-        }
+    if is_empty(span) {
+        return Answer { refusal: 0, board };
+    }
+    let front = front_of(board, run_of(span));
+    if front.count + (board.count - front.next) < BOARD_RUNS {
+        let next = filled(board, front);
         return Answer {
-            refusal: ROOM,
-            board,
+            refusal: 0,
+            board: next,
         };
     }
-    Answer { refusal: 0, board }
+    refused(ROOM, board)
 }
 
-/// The number of lit columns.
+/// The number of lit columns of a board whose row and columns are within 2^14.
 pub fn total_of(board: Board) -> i64
-    requires { ⌜ Sound board ⌝ }
+    requires { ⌜ Sound lineLimit board ⌝ }
     ensures { λ r. ⌜ r ≡ total (live board) ⌝ }
 {
     let n = board.count;
@@ -240,7 +253,7 @@ fn put_run(out: &mut [i64], at: usize, run: Run)
 }
 
 /// Writes the runs to the front of a list, start and end of each in turn.
-pub fn write_runs(board: Board, out: &mut [i64])
+fn write_runs(board: Board, out: &mut [i64])
     requires { ⌜ board .count ≤ boardRuns ⌝ }
     requires { ⌜ 2 * board .count ≤ length (now out) ⌝ }
     ensures { λ _. ⌜ now (out .exit) ≡ over (now (out .entry)) (live board) ⌝ }
@@ -251,5 +264,23 @@ pub fn write_runs(board: Board, out: &mut [i64])
         let run = board.runs[i];
         put_run(&mut *out, 2 * i, run);
         i += 1;
+    }
+}
+
+/// A listing that makes no test of the board, whose row and columns are within 2^14: writes the runs to the front of `out` and
+/// answers their count and the number of their columns; 8, and `out` as it was, if it has fewer than two numbers for each run.
+pub fn list_sound(board: Board, out: &mut [i64]) -> Listed
+    requires { ⌜ Sound lineLimit board ⌝ }
+    ensures { λ r. ⌜ (r ≡ told board (length (now (out .entry)))) × (now (out .exit) ≡ toldTo board (now (out .entry))) ⌝ }
+{
+    let count = board.count;
+    if out.len() < 2 * count {
+        return not_listed(ROOM);
+    }
+    write_runs(board, &mut *out);
+    Listed {
+        refusal: 0,
+        count,
+        total: total_of(board),
     }
 }

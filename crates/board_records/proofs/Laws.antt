@@ -1,62 +1,23 @@
 -- Laws of the second listing: when it is refused, and what it answers and writes. Assumes nothing.
 use mathlib.Core.Path.{_≡_, refl, sym, ap, _∙_}
-use mathlib.Core.Bool.{Bool, true, false}
-use mathlib.Core.List.{List, _++_}
-use mathlib.Core.Logic.{_↔_}
-use Prim.Native.Nat.{ℕ, _*_, _≤_, _<_}
+use mathlib.Core.Bool.{Bool, true, false, cond}
+use mathlib.Core.List.{List, [], _++_}
+use mathlib.Core.Logic.{_↔_, _≢_}
+use Prim.Native.Nat.{ℕ, _*_, _≤_, zero-le}
 use native.Mathlib.Omega.{arith}
-use borrow.Author.Tests.{leb-true, leb-false, le-leb, lt-leb, eqb-true}
-use lib.Dec.{leb, eqb}
+use lib.Dec.{leb}
 use lib.IntN.{ℤ}
-use lib.ListN.{length, take, drop, length-take, take-append-drop}
+use lib.ListN.{length, take, drop, take-append-drop}
 use lib.Seq.{take-append-seam}
-use Rattle.whole.proofs.Tests.{passed}
+use Rattle.whole.proofs.Tests.{and-iff}
 use Rattle.shapes.specs.Limits.{boardRuns}
 use Rattle.board.specs.declared.Run.{Run}
 use Rattle.board.specs.declared.Board.{Board}
-use Rattle.board.specs.Runs.{total}
-use Rattle.board.specs.Boards.{live, Sound, isSound, listRefusal, listed, listedTo}
-use Rattle.board.proofs.Laws.{true-sound, sound-true, list-zero, list-eight, list-six}
-use Rattle.board_records.specs.Records.{bothRefusal, refusedListing, bothListed, numbersTo, recordsOver, recordsTo}
-
--- ---- the refusal
-
-module _ (b : Board) (n m : ℕ) where
-  -- with a record for each run the numbers' listing decides
-  within-by : (t : Bool) → eqb (listRefusal b n) 0 ≡ t → length (live b) ≤ m → bothRefusal b n m ≡ listRefusal b n
-  unfolding bothRefusal
-  within-by true e h = rw (e, le-leb (length (live b)) m h) (sym (eqb-true (listRefusal b n) 0 e))
-  within-by false e h = rw e
-
-  pub refusal-within : length (live b) ≤ m → bothRefusal b n m ≡ listRefusal b n
-  refusal-within = within-by (eqb (listRefusal b n) 0) refl
-
-  pub refusal-six : isSound b ≡ false → bothRefusal b n m ≡ 6
-  unfolding bothRefusal
-  refusal-six s = rw (list-six b n s)
-
-  eight-by : (t : Bool) → leb (2 * length (live b)) n ≡ t → isSound b ≡ true → m < length (live b) → bothRefusal b n m ≡ 8
-  unfolding bothRefusal
-  eight-by true e s h = rw (list-zero b n s (leb-true (2 * length (live b)) n e), lt-leb (length (live b)) m h)
-  eight-by false e s h = rw (list-eight b n s (leb-false (2 * length (live b)) n e))
-
-  -- with too few records it is 8, whatever the numbers' list has
-  pub refusal-eight : isSound b ≡ true → m < length (live b) → bothRefusal b n m ≡ 8
-  refusal-eight = eight-by (leb (2 * length (live b)) n) refl
-
--- ---- with a record for each run the answer and the numbers are those of the first listing
-
-listed-by : (b : Board) (n m : ℕ) (t : Bool) → eqb (listRefusal b n) 0 ≡ t → length (live b) ≤ m → bothListed b n m ≡ listed b n
-unfolding bothListed listed
-listed-by b n m true e h = rw (refusal-within b n m h, e)
-listed-by b n m false e h = rw (refusal-within b n m h, e)
-
-pub listed-within : (b : Board) (n m : ℕ) → length (live b) ≤ m → bothListed b n m ≡ listed b n
-listed-within b n m = listed-by b n m (eqb (listRefusal b n) 0) refl
-
-pub numbers-within : (b : Board) (out : List ℤ) (m : ℕ) → length (live b) ≤ m → numbersTo b out m ≡ listedTo b out
-unfolding numbersTo listedTo
-numbers-within b out m h = rw (refusal-within b (length out) m h)
+use Rattle.board.specs.Boards.{live, Sound, isSound, notListed, listing, over}
+use Rattle.board.proofs.Sound.{leb-iff, sound-iff}
+use Rattle.board_laws.proofs.Offers.{live-few}
+use Rattle.board_laws.proofs.Refused.{answer, accepted-by, refused-by, written-by, kept-by, zero-by, six-by, eight-by}
+use Rattle.board_records.specs.Records.{hasRoom, bothRefusal, bothListed, numbersTo, recordsOver, recordsTo}
 
 -- ---- refused exactly when
 
@@ -64,88 +25,55 @@ numbers-within b out m h = rw (refusal-within b (length out) m h)
 abbrev pub Room : Board → ℕ → ℕ → Type 0
 Room b n m = (2 * length (live b) ≤ n) × (length (live b) ≤ m)
 
-pub data Verdict (b : Board) (n m : ℕ) : Type 0 where
-  lists : Sound b → Room b n m → bothRefusal b n m ≡ 0 → Verdict b n m
-  no-room : Sound b → (Room b n m → ⊥) → bothRefusal b n m ≡ 8 → Verdict b n m
-  no-board : (Sound b → ⊥) → bothRefusal b n m ≡ 6 → Verdict b n m
+room-iff : (b : Board) (n m : ℕ) → (hasRoom b n m ≡ true) ↔ Room b n m
+room-iff b n m = and-iff (leb (2 * length (live b)) n) (leb (length (live b)) m) (leb-iff (2 * length (live b)) n) (leb-iff (length (live b)) m)
 
-module _ (b : Board) (n m : ℕ) where
-  abbrev runs : ℕ
-  runs = length (live b)
-
-  verdict-by : (s t u : Bool) → isSound b ≡ s → leb (2 * runs) n ≡ t → leb runs m ≡ u → Verdict b n m
-  verdict-by false t u es et eu = no-board (λ sound. passed false (sym es ∙ sound-true sound)) (refusal-six b n m es)
-  verdict-by true t false es et eu =
-      let few = leb-false runs m eu in
-      no-room (true-sound b es) (λ r. omega (arith, r .1)) (refusal-eight b n m es few)
-  verdict-by true true true es et eu =
-      let numbers = leb-true (2 * runs) n et in
-      let records = leb-true runs m eu in
-      lists (true-sound b es) (numbers, records) (refusal-within b n m records ∙ list-zero b n es numbers)
-  verdict-by true false true es et eu =
-      let few = leb-false (2 * runs) n et in
-      no-room (true-sound b es) (λ r. omega (arith, r .0)) (refusal-within b n m (leb-true runs m eu) ∙ list-eight b n es few)
-
-  pub verdict : Verdict b n m
-  verdict = verdict-by (isSound b) (leb (2 * runs) n) (leb runs m) refl refl refl
-
-  zero-by : Verdict b n m → (bothRefusal b n m ≡ 0) ↔ (Sound b × Room b n m)
-  zero-by (lists s r e) = (λ _. (s, r), λ _. e)
-  zero-by (no-room s r e) = (λ f. absurd (omega arith), λ h. absurd (r (h .1)))
-  zero-by (no-board s e) = (λ f. absurd (omega arith), λ h. absurd (s (h .0)))
-
-  six-by : Verdict b n m → (bothRefusal b n m ≡ 6) ↔ (Sound b → ⊥)
-  six-by (lists s r e) = (λ f. absurd (omega arith), λ h. absurd (h s))
-  six-by (no-room s r e) = (λ f. absurd (omega arith), λ h. absurd (h s))
-  six-by (no-board s e) = (λ _. s, λ _. e)
-
-  eight-exactly-by : Verdict b n m → (bothRefusal b n m ≡ 8) ↔ (Sound b × (Room b n m → ⊥))
-  eight-exactly-by (lists s r e) = (λ f. absurd (omega arith), λ h. absurd (h .1 r))
-  eight-exactly-by (no-room s r e) = (λ _. (s, r), λ _. e)
-  eight-exactly-by (no-board s e) = (λ f. absurd (omega arith), λ h. absurd (s (h .0)))
-
-  pub zero-exactly : (bothRefusal b n m ≡ 0) ↔ (Sound b × Room b n m)
-  zero-exactly = zero-by verdict
-
-  pub six-exactly : (bothRefusal b n m ≡ 6) ↔ (Sound b → ⊥)
-  six-exactly = six-by verdict
-
-  pub eight-exactly : (bothRefusal b n m ≡ 8) ↔ (Sound b × (Room b n m → ⊥))
-  eight-exactly = eight-exactly-by verdict
-
--- ---- what is answered, and what the lists hold afterwards
-
-module _ (b : Board) (n m : ℕ) where
-  pub accepted-answer : bothRefusal b n m ≡ 0 → bothListed b n m ≡ record { refusal = 0; count = length (live b); total = total (live b) }
-  unfolding bothListed listed
-  accepted-answer e = let first : listRefusal b n ≡ 0 = sym (refusal-within b n m (zero-exactly b n m .0 e .1 .1)) ∙ e in rw (e, first)
-
-  pub refused-answer : eqb (bothRefusal b n m) 0 ≡ false → bothListed b n m ≡ refusedListing (bothRefusal b n m)
+module _ (k : ℕ) (b : Board) (n m : ℕ) where
+  pub zero-exactly : (bothRefusal k b n m ≡ 0) ↔ (Sound k b × Room b n m)
   unfolding bothListed
-  refused-answer e = rw e
+  zero-exactly = zero-by b k (hasRoom b n m) (room-iff b n m)
 
-module _ (b : Board) (out : List ℤ) (m : ℕ) where
-  -- the numbers are those of the first listing
-  pub accepted-numbers : bothRefusal b (length out) m ≡ 0 → numbersTo b out m ≡ listedTo b out
-  accepted-numbers e = numbers-within b out m (zero-exactly b (length out) m .0 e .1 .1)
+  pub six-exactly : (bothRefusal k b n m ≡ 6) ↔ (Sound k b → ⊥)
+  unfolding bothListed
+  six-exactly = six-by b k (hasRoom b n m) (room-iff b n m)
 
-  pub refused-numbers : eqb (bothRefusal b (length out) m) 0 ≡ false → numbersTo b out m ≡ out
-  unfolding numbersTo
-  refused-numbers e = rw e
+  pub eight-exactly : (bothRefusal k b n m ≡ 8) ↔ (Sound k b × (Room b n m → ⊥))
+  unfolding bothListed
+  eight-exactly = eight-by b k (hasRoom b n m) (room-iff b n m)
 
-module _ (b : Board) (n : ℕ) (records : List Run) where
-  -- the records are the runs, and then what was there
-  pub accepted-records : bothRefusal b n (length records) ≡ 0 → recordsTo b n records ≡ live b ++ drop (length (live b)) records
-  unfolding recordsTo recordsOver
-  accepted-records e = rw e
+  -- ---- what is answered, and what the lists hold afterwards
+
+  pub accepted-answer : bothRefusal k b n m ≡ 0 → bothListed k b n m ≡ listing b
+  unfolding bothListed
+  accepted-answer = accepted-by b (isSound k b) (hasRoom b n m)
+
+  pub refused-answer : bothRefusal k b n m ≢ 0 → bothListed k b n m ≡ notListed (bothRefusal k b n m)
+  unfolding bothListed
+  refused-answer = refused-by b (isSound k b) (hasRoom b n m)
+
+module _ (k : ℕ) (b : Board) (out : List ℤ) (m : ℕ) where
+  -- the runs' numbers, and then what was there
+  pub accepted-numbers : bothRefusal k b (length out) m ≡ 0 → numbersTo k b out m ≡ over out (live b)
+  unfolding bothListed numbersTo
+  accepted-numbers = written-by b (over out (live b)) out (isSound k b) (hasRoom b (length out) m)
+
+  pub refused-numbers : bothRefusal k b (length out) m ≢ 0 → numbersTo k b out m ≡ out
+  unfolding bothListed numbersTo
+  refused-numbers = kept-by b (over out (live b)) out (isSound k b) (hasRoom b (length out) m)
+
+module _ (k : ℕ) (b : Board) (n : ℕ) (records : List Run) where
+  -- the runs, and then what was there
+  pub accepted-records : bothRefusal k b n (length records) ≡ 0 → recordsTo k b n records ≡ live b ++ drop (length (live b)) records
+  unfolding bothListed recordsTo recordsOver
+  accepted-records = written-by b (recordsOver records (live b)) records (isSound k b) (hasRoom b n (length records))
 
   -- what is read back are the runs
-  pub records-read : bothRefusal b n (length records) ≡ 0 → take (bothListed b n (length records) .count) (recordsTo b n records) ≡ live b
-  records-read e = rw (accepted-answer b n (length records) e, accepted-records e) (take-append-seam (live b) (drop (length (live b)) records))
+  pub records-read : bothRefusal k b n (length records) ≡ 0 → take (bothListed k b n (length records) .count) (recordsTo k b n records) ≡ live b
+  records-read e = rw (accepted-answer k b n (length records) e, accepted-records e) (take-append-seam (live b) (drop (length (live b)) records))
 
-  pub refused-records : eqb (bothRefusal b n (length records)) 0 ≡ false → recordsTo b n records ≡ records
-  unfolding recordsTo
-  refused-records e = rw e
+  pub refused-records : bothRefusal k b n (length records) ≢ 0 → recordsTo k b n records ≡ records
+  unfolding bothListed recordsTo
+  refused-records = kept-by b (recordsOver records (live b)) records (isSound k b) (hasRoom b n (length records))
 
 -- ---- as many runs as the answer counts are copied: none where it is refused
 
@@ -155,24 +83,23 @@ take-live b =
     let first = take (b .count) (b .runs) in
     ap (take (length first)) (sym (take-append-drop (b .count) (b .runs))) ∙ take-append-seam first (drop (b .count) (b .runs))
 
-room-by : (b : Board) (n m : ℕ) → Verdict b n m → (bothListed b n m .count ≤ boardRuns) × (bothListed b n m .count ≤ m)
-unfolding live
-room-by b n m (lists s r e) =
-    let few : length (live b) ≤ boardRuns = omega (arith, length-take (b .count) (b .runs), s .few) in
-    rw (accepted-answer b n m e) (few, r .1)
-room-by b n m (no-room s r e) = rw (refused-answer b n m (rw e)) (omega arith, omega arith)
-room-by b n m (no-board s e) = rw (refused-answer b n m (rw e)) (omega arith, omega arith)
+module _ (k : ℕ) (b : Board) (n : ℕ) (records : List Run) where
+  room-by : (t u : Bool) → isSound k b ≡ t → hasRoom b n (length records) ≡ u → (answer b t u .count ≤ boardRuns) × (answer b t u .count ≤ length records)
+  room-by true true e f = (omega (arith, live-few b, sound-iff k b .0 e .few), room-iff b n (length records) .0 f .1)
+  room-by true false e f = (zero-le, zero-le)
+  room-by false u e f = (zero-le, zero-le)
 
--- there is room for them
-pub room-copied : (b : Board) (n m : ℕ) → (bothListed b n m .count ≤ boardRuns) × (bothListed b n m .count ≤ m)
-room-copied b n m = room-by b n m (verdict b n m)
+  copied-by : (t u : Bool) → recordsOver records (take (answer b t u .count) (b .runs)) ≡ cond t (cond u (recordsOver records (live b)) records) records
+  unfolding recordsOver
+  copied-by true true = rw (take-live b)
+  copied-by true false = refl
+  copied-by false u = refl
 
-module _ (b : Board) (n : ℕ) (records : List Run) where
-  copied-by : (t : Bool) → eqb (bothRefusal b n (length records)) 0 ≡ t
-      → recordsOver records (take (bothListed b n (length records) .count) (b .runs)) ≡ recordsTo b n records
-  unfolding recordsOver recordsTo
-  copied-by true e = rw (accepted-answer b n (length records) (eqb-true (bothRefusal b n (length records)) 0 e), e, take-live b)
-  copied-by false e = rw (refused-answer b n (length records) e, e)
+  -- there is room for them
+  pub room-copied : (bothListed k b n (length records) .count ≤ boardRuns) × (bothListed k b n (length records) .count ≤ length records)
+  unfolding bothListed
+  room-copied = room-by (isSound k b) (hasRoom b n (length records)) refl refl
 
-  pub records-copied : recordsOver records (take (bothListed b n (length records) .count) (b .runs)) ≡ recordsTo b n records
-  records-copied = copied-by (eqb (bothRefusal b n (length records)) 0) refl
+  pub records-copied : recordsOver records (take (bothListed k b n (length records) .count) (b .runs)) ≡ recordsTo k b n records
+  unfolding bothListed recordsTo
+  records-copied = copied-by (isSound k b) (hasRoom b n (length records))

@@ -1,50 +1,33 @@
 //! What the entry does to each of the two lists.
 ghost use mathlib.Core.Path.{_≡_};
-ghost use Prim.Native.Nat.{_≤_, _<_};
-ghost use lib.IntN.{pos};
-ghost use lib.ListN.{length, getD, take};
-ghost use Rattle.shapes.specs.Limits.{boardRuns};
-ghost use Rattle.board.specs.Runs.{runOf};
-ghost use Rattle.board_records.specs.Records.{refusedListing, bothListed, numbersTo, recordsOver};
+ghost use Prim.Native.Nat.{_≤_};
+ghost use lib.ListN.{length, take};
+ghost use Rattle.shapes.specs.Limits.{boardRuns, lineLimit};
+ghost use Rattle.board_records.specs.Records.{bothListed, numbersTo, recordsOver};
 use board::Board;
 use board::Listed;
 use board::Run;
 use board::inner::is_sound;
-use board::list;
+use board::inner::list_sound;
+use board::inner::not_listed;
+use board::inner::run_at;
 use shapes::refusals::ROOM;
 use shapes::refusals::ROW;
 
-/// A refusal, and 0 for the rest.
-fn refused(refusal: u64) -> Listed
-    ensures { λ r. ⌜ r ≡ refusedListing refusal ⌝ }
+/// The listing to numbers alone, where the other list has `room` records, and rows and columns are from `-limit` to `limit`, which is at
+/// most 2^14. 6 if the board is none that a fresh board can come to; 8 if `out` has fewer than two numbers for each run, or `room` is less
+/// than the number of runs. Refused, `out` is as it was.
+pub fn list_within(board: Board, limit: u32, room: usize, out: &mut [i64]) -> Listed
+    requires { ⌜ limit ≤ lineLimit ⌝ }
+    ensures { λ r. ⌜ (r ≡ bothListed limit board (length (now (out .entry))) room) × (now (out .exit) ≡ numbersTo limit board (now (out .entry)) room) ⌝ }
 {
-    Listed {
-        refusal,
-        count: 0,
-        total: 0,
+    if is_sound(board, limit) {
+        if board.count <= room {
+            return list_sound(board, out);
+        }
+        return not_listed(ROOM);
     }
-}
-
-/// The listing to numbers alone, where the other list has `room` records. 6 if the board is none that a fresh board can come to; 8 if
-/// `out` has fewer than two numbers for each run, or `room` is less than the number of runs. Refused, `out` is as it was.
-pub fn list_within(board: Board, room: usize, out: &mut [i64]) -> Listed
-    ensures { λ r. ⌜ (r ≡ bothListed board (length (now (out .entry))) room) × (now (out .exit) ≡ numbersTo board (now (out .entry)) room) ⌝ }
-{
-    if board.count <= room {
-        return list(board, out);
-    }
-    if is_sound(board) {
-        return refused(ROOM);
-    }
-    refused(ROW)
-}
-
-/// Run `i` of the board.
-fn run_at(board: Board, i: usize) -> Run
-    requires { ⌜ i < boardRuns ⌝ }
-    ensures { λ r. ⌜ r ≡ getD (board .runs) i (runOf (pos 0) (pos 0)) ⌝ }
-{
-    board.runs[i]
+    not_listed(ROW)
 }
 
 /// Writes the first `count` runs to the front of a list of records; the rest of it keeps its content.

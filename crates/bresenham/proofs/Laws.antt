@@ -1,23 +1,25 @@
 -- What W2 says of the parameters of a walk: they are fair for every delta but (0,0), and small enough for the steps.
 -- Assumes nothing.
 use mathlib.Core.Path.{_≡_, refl}
-use mathlib.Core.Bool.{Bool, true, false}
+use mathlib.Core.Bool.{Bool, true, false, cond}
 use Prim.Native.Nat.{ℕ, _+_, _*_, _≤_}
 use native.Mathlib.Nat.{le-refl}
 use native.Mathlib.Omega.{arith}
 use borrow.Author.Tests.{ltb-true, ltb-false}
-use lib.Dec.{lit≤}
+use lib.Dec.{ltb, lit≤}
 use lib.IntN.{ℤ, pos, natAbs}
 use lib.Signed.{ltZ, _≤ℤ_}
 use Rattle.whole.specs.Number.{Within}
+use Rattle.whole.proofs.Bounds.{within-more, within-sub}
 use Rattle.whole.proofs.Linear.{linear, times, abs-le}
 use Rattle.shapes.specs.declared.Point.{Point}
 use Rattle.shapes.specs.Shape.{pointOf, Near}
-use Rattle.shapes.proofs.Laws.{near-more}
+use Rattle.shapes.proofs.Laws.{near-more, near-plus}
 use Rattle.bresenham.specs.declared.Parameters.{Parameters}
-use Rattle.bresenham.specs.Walk.{stepLimit, Sized, Fair, directionOf, along, parametersAlong}
+use Rattle.bresenham.specs.declared.Bresenham.{Bresenham}
+use Rattle.bresenham.specs.Walk.{stepLimit, Sized, Placed, turned, Fair, directionOf, along, parametersAlong}
 
--- ---- the parameters of a delta are fair
+-- ---- the steps
 
 direction-by : (d : ℤ) (t : Bool) → ltZ d (pos 0) ≡ t → natAbs (directionOf d) ≤ 1
 unfolding directionOf
@@ -27,10 +29,10 @@ direction-by d false e = rw e (le-refl 1)
 pub direction-unit : (d : ℤ) → Within (directionOf d) 1
 direction-unit d = record { bound = direction-by d (ltZ d (pos 0)) refl }
 
-abbrev across : Point → Point
+abbrev pub across : Point → Point
 across d = pointOf (directionOf (d .x)) (pos 0)
 
-abbrev down : Point → Point
+abbrev pub down : Point → Point
 down d = pointOf (pos 0) (directionOf (d .y))
 
 across-unit : (d : Point) → Near 1 (across d)
@@ -39,29 +41,87 @@ across-unit d = record { x-near = direction-unit (d .x); y-near = record { bound
 down-unit : (d : Point) → Near 1 (down d)
 down-unit d = record { x-near = record { bound = lit≤ tt }; y-near = direction-unit (d .y) }
 
-along-fair : {k a b : ℕ} {major minor : Point} → Near 1 major → Near 1 minor → 1 ≤ a → a ≤ k → b ≤ a → Fair k (along major minor (pos a) (pos b))
-unfolding along
-along-fair p q some most less =
-    record { some = omega linear; most = omega linear; loss-is = refl; gain-low = omega linear; gain-high = omega linear; major-unit = p; minor-unit = q }
+-- ---- the parameters of a delta in one form, whichever axis is major
 
--- the threshold is the larger absolute delta
+abbrev pub isSteep : Point → Bool
+isSteep d = ltb (natAbs (d .x)) (natAbs (d .y))
+
+abbrev pub longer : Point → ℕ
+longer d = cond (isSteep d) (natAbs (d .y)) (natAbs (d .x))
+
+abbrev pub shorter : Point → ℕ
+shorter d = cond (isSteep d) (natAbs (d .x)) (natAbs (d .y))
+
+one-form : (t : Bool) (a b : Point) (m n : ℕ) → cond t (along a b (pos m) (pos n)) (along b a (pos n) (pos m)) ≡ along (cond t a b) (cond t b a) (pos (cond t m n)) (pos (cond t n m))
+one-form true a b m n = refl
+one-form false a b m n = refl
+
+pub parameters-are : (d : Point) → parametersAlong d ≡ along (cond (isSteep d) (down d) (across d)) (cond (isSteep d) (across d) (down d)) (pos (longer d)) (pos (shorter d))
+unfolding parametersAlong
+parameters-are d = one-form (isSteep d) (down d) (across d) (natAbs (d .y)) (natAbs (d .x))
+
+-- of two numbers, m and n: a is the larger, c the smaller
+pub record Sides (m n a c : ℕ) : Type 0 where
+  pub m-less : m ≤ a
+  pub n-less : n ≤ a
+  pub less : c ≤ a
+  pub least : (k : ℕ) → m ≤ k → n ≤ k → a ≤ k
+
+sides-by : (m n : ℕ) (t : Bool) → ltb m n ≡ t → Sides m n (cond t n m) (cond t m n)
+sides-by m n true e =
+    let lt = ltb-true m n e in
+    record { m-less = omega arith; n-less = le-refl n; less = omega arith; least = λ k x y. y }
+sides-by m n false e =
+    let le = ltb-false m n e in
+    record { m-less = le-refl m; n-less = le; less = le; least = λ k x y. x }
+
+pub sides : (d : Point) → Sides (natAbs (d .x)) (natAbs (d .y)) (longer d) (shorter d)
+sides d = sides-by (natAbs (d .x)) (natAbs (d .y)) (isSteep d) refl
+
+unit-either : (t : Bool) {a b : Point} → Near 1 a → Near 1 b → Near 1 (cond t a b)
+unit-either true p q = p
+unit-either false p q = q
+
+-- ---- they are steps of one pixel, and the threshold is the larger absolute delta
+
+pub major-unit : (d : Point) → Near 1 (parametersAlong d .major)
+unfolding along
+major-unit d = rw (parameters-are d) (unit-either (isSteep d) (down-unit d) (across-unit d))
+
+pub minor-unit : (d : Point) → Near 1 (parametersAlong d .minor)
+unfolding along
+minor-unit d = rw (parameters-are d) (unit-either (isSteep d) (across-unit d) (down-unit d))
+
+pub threshold-natural : {k : ℕ} (d : Point) → Near k d → (pos 0 ≤ℤ parametersAlong d .threshold) × (natAbs (parametersAlong d .threshold) ≤ k)
+unfolding along
+threshold-natural {k} d h = rw (parameters-are d) (omega linear, sides d .least k (h .x-near .bound) (h .y-near .bound))
+
 pub record Larger (k : ℕ) (d : Point) (p : Parameters) : Type 0 where
   pub fair : Fair k p
   pub x-less : natAbs (d .x) ≤ natAbs (p .threshold)
   pub y-less : natAbs (d .y) ≤ natAbs (p .threshold)
   pub least : (n : ℕ) → natAbs (d .x) ≤ n → natAbs (d .y) ≤ n → natAbs (p .threshold) ≤ n
 
-larger-by : (k : ℕ) (d : Point) (t : Bool) → ltZ (pos (natAbs (d .x))) (pos (natAbs (d .y))) ≡ t → Near k d → 1 ≤ natAbs (d .x) + natAbs (d .y) → Larger k d (parametersAlong d)
-unfolding parametersAlong along
-larger-by k d true e h some =
-    let less = ltb-true (natAbs (d .x)) (natAbs (d .y)) e in
-    rw e (record { fair = along-fair (down-unit d) (across-unit d) (omega arith) (h .y-near .bound) (omega arith); x-less = omega arith; y-less = le-refl (natAbs (d .y)); least = λ n x y. y })
-larger-by k d false e h some =
-    let less = ltb-false (natAbs (d .x)) (natAbs (d .y)) e in
-    rw e (record { fair = along-fair (across-unit d) (down-unit d) (omega arith) (h .x-near .bound) (omega arith); x-less = le-refl (natAbs (d .x)); y-less = omega arith; least = λ n x y. x })
-
 pub larger : {k : ℕ} (d : Point) → Near k d → 1 ≤ natAbs (d .x) + natAbs (d .y) → Larger k d (parametersAlong d)
-larger {k} d h some = larger-by k d (ltZ (pos (natAbs (d .x))) (pos (natAbs (d .y)))) refl h some
+unfolding along
+larger {k} d h some =
+    let s = sides d in
+    let most : longer d ≤ k = s .least k (h .x-near .bound) (h .y-near .bound) in
+    rw (parameters-are d)
+    (record {
+      fair = record {
+        some = omega linear;
+        most = omega linear;
+        loss-is = refl;
+        gain-low = omega linear;
+        gain-high = omega linear;
+        major-unit = unit-either (isSteep d) (down-unit d) (across-unit d);
+        minor-unit = unit-either (isSteep d) (across-unit d) (down-unit d);
+      };
+      x-less = s .m-less;
+      y-less = s .n-less;
+      least = s .least;
+    })
 
 -- ---- what the steps ask
 
@@ -76,30 +136,11 @@ fair-sized {k} {p} f h =
       threshold-small = record { bound = abs-le (p .threshold) (omega linear) (omega linear) };
     }
 
--- ---- the steps of any delta
+-- after a minor move, where one is due, a place is still small enough for a major one
+turned-by : (p : Parameters) (b : Bresenham) (t : Bool) → ltZ (p .threshold) (b .error) ≡ t → Sized p → Placed b → Near (stepLimit + stepLimit) (turned p b .point) × Within (turned p b .error) (stepLimit + stepLimit)
+unfolding turned
+turned-by p b true e s h = rw e (near-plus (h .point-near) (s .minor-near), within-sub (h .error-small) (s .loss-small))
+turned-by p b false e s h = rw e (near-more (h .point-near) (lit≤ tt), within-more (h .error-small) (lit≤ tt))
 
-major-by : (d : Point) (t : Bool) → ltZ (pos (natAbs (d .x))) (pos (natAbs (d .y))) ≡ t → Near 1 (parametersAlong d .major)
-unfolding parametersAlong along
-major-by d true e = rw e (down-unit d)
-major-by d false e = rw e (across-unit d)
-
-pub major-unit : (d : Point) → Near 1 (parametersAlong d .major)
-major-unit d = major-by d (ltZ (pos (natAbs (d .x))) (pos (natAbs (d .y)))) refl
-
-minor-by : (d : Point) (t : Bool) → ltZ (pos (natAbs (d .x))) (pos (natAbs (d .y))) ≡ t → Near 1 (parametersAlong d .minor)
-unfolding parametersAlong along
-minor-by d true e = rw e (across-unit d)
-minor-by d false e = rw e (down-unit d)
-
-pub minor-unit : (d : Point) → Near 1 (parametersAlong d .minor)
-minor-unit d = minor-by d (ltZ (pos (natAbs (d .x))) (pos (natAbs (d .y)))) refl
-
--- ---- the threshold of any delta
-
-threshold-by : (k : ℕ) (d : Point) (t : Bool) → ltZ (pos (natAbs (d .x))) (pos (natAbs (d .y))) ≡ t → Near k d → (pos 0 ≤ℤ parametersAlong d .threshold) × (natAbs (parametersAlong d .threshold) ≤ k)
-unfolding parametersAlong along
-threshold-by k d true e h = rw e (omega linear, h .y-near .bound)
-threshold-by k d false e h = rw e (omega linear, h .x-near .bound)
-
-pub threshold-natural : {k : ℕ} (d : Point) → Near k d → (pos 0 ≤ℤ parametersAlong d .threshold) × (natAbs (parametersAlong d .threshold) ≤ k)
-threshold-natural {k} d h = threshold-by k d (ltZ (pos (natAbs (d .x))) (pos (natAbs (d .y)))) refl h
+pub turned-placed : {p : Parameters} {b : Bresenham} → Sized p → Placed b → Near (stepLimit + stepLimit) (turned p b .point) × Within (turned p b .error) (stepLimit + stepLimit)
+turned-placed {p} {b} s h = turned-by p b (ltZ (p .threshold) (b .error)) refl s h

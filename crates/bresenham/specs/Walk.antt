@@ -1,6 +1,6 @@
 -- A walk along a line: 01's rules W2 (parameters, plain step), W3 (steps across), W4 (error of a parallel's first point).
 use mathlib.Core.Path.{_≡_}
-use mathlib.Core.Bool.{true, false, cond}
+use mathlib.Core.Bool.{Bool, true, false, cond}
 use Prim.Native.Nat.{ℕ, _^_}
 use lib.IntN.{ℤ, pos, negsuc, natAbs, negℤ, _+ℤ_, _-ℤ_, _*ℤ_}
 use lib.Signed.{ltZ, leZ, _≤ℤ_}
@@ -70,41 +70,35 @@ nextOf p b = handed p (turned p b)
 
 -- ---- W3: the steps across a line
 
-abbrev pub extraAt : Point → Bresenham → Met
-extraAt p b = record { point = p; extra = true; state = b }
-
-abbrev pub normalAt : Point → Bresenham → Met
-normalAt p b = record { point = p; extra = false; state = b }
+-- Extra, and then a minor move, where one is due; else Normal, and then a major move
+abbrev pub metAt : Bool → Point → Bresenham → Bresenham → Met
+metAt due p turned gone = cond due (record { point = p; extra = true; state = turned }) (record { point = p; extra = false; state = gone })
 
 -- error > a gives Extra, then a minor move and error - 2a; else Normal, then a major move and error + 2b
 unfoldable pub nextAll : Parameters → Bresenham → Met
 nextAll p b =
-    cond (ltZ (p .threshold) (b .error))
-    (extraAt (b .point) (placeOf (plus (b .point) (p .minor)) (b .error -ℤ p .loss)))
-    (normalAt (b .point) (placeOf (plus (b .point) (p .major)) (b .error +ℤ p .gain)))
+    metAt (ltZ (p .threshold) (b .error)) (b .point) (placeOf (plus (b .point) (p .minor)) (b .error -ℤ p .loss))
+    (placeOf (plus (b .point) (p .major)) (b .error +ℤ p .gain))
 
 -- error ≤ -a gives Extra, then a minor move back and error + 2a; else Normal, a major move back and error - 2b
 unfoldable pub previousAll : Parameters → Bresenham → Met
 previousAll p b =
-    cond (leZ (b .error) (negℤ (p .threshold)))
-    (extraAt (b .point) (placeOf (minus (b .point) (p .minor)) (b .error +ℤ p .loss)))
-    (normalAt (b .point) (placeOf (minus (b .point) (p .major)) (b .error -ℤ p .gain)))
+    metAt (leZ (b .error) (negℤ (p .threshold))) (b .point) (placeOf (minus (b .point) (p .minor)) (b .error +ℤ p .loss))
+    (placeOf (minus (b .point) (p .major)) (b .error -ℤ p .gain))
 
 -- ---- W4: the error of a parallel's first point
 
+-- the error after a carry, where one is due
+abbrev pub carriedAt : Bool → ℤ → ℤ → Carried
+carriedAt due settled moved = cond due (record { error = settled; carry = true }) (record { error = moved; carry = false })
+
 -- add 2b; if above a, take off 2a and carry
 unfoldable pub increased : Parameters → ℤ → Carried
-increased p e =
-    cond (ltZ (p .threshold) (e +ℤ p .gain))
-    (record { error = e +ℤ p .gain -ℤ p .loss; carry = true })
-    (record { error = e +ℤ p .gain; carry = false })
+increased p e = carriedAt (ltZ (p .threshold) (e +ℤ p .gain)) (e +ℤ p .gain -ℤ p .loss) (e +ℤ p .gain)
 
 -- take off 2b; if ≤ -a, add 2a and carry
 unfoldable pub decreased : Parameters → ℤ → Carried
-decreased p e =
-    cond (leZ (e -ℤ p .gain) (negℤ (p .threshold)))
-    (record { error = e -ℤ p .gain +ℤ p .loss; carry = true })
-    (record { error = e -ℤ p .gain; carry = false })
+decreased p e = carriedAt (leZ (e -ℤ p .gain) (negℤ (p .threshold))) (e -ℤ p .gain +ℤ p .loss) (e -ℤ p .gain)
 
 -- ---- what W2 says of the parameters of any line whose start is not its end: 1 ≤ a ≤ k, 0 ≤ 2b ≤ 2a, and steps of one pixel
 

@@ -4,7 +4,7 @@ ghost use Rattle.shapes.specs.Limits.{lineLimit};
 ghost use Rattle.shapes.specs.Shape.{Near, LineNear};
 ghost use Rattle.whole.specs.Number.{Within};
 ghost use Rattle.bresenham.specs.Walk.{stepLimit, Sized, Placed, along, parametersAlong, parametersOf};
-ghost use Rattle.bresenham.specs.Walk.{directionOf, nextOf, nextAll, previousAll, increased, decreased};
+ghost use Rattle.bresenham.specs.Walk.{directionOf, turned, nextOf, metAt, nextAll, previousAll, carriedAt, increased, decreased};
 use crate::Bresenham;
 use crate::Carried;
 use crate::Drawn;
@@ -74,24 +74,30 @@ pub fn next(p: Parameters, at: Bresenham) -> Drawn
     requires { ⌜ Placed at ⌝ }
     ensures { λ r. ⌜ r ≡ nextOf p at ⌝ }
 {
-    let threshold = p.threshold;
-    let gain = p.gain;
-    let loss = p.loss;
-    let error = at.error;
-    if threshold < error {
-        let point = plus(at.point, p.minor);
-        let state = Bresenham {
-            point: plus(point, p.major),
-            error: error - loss + gain,
-        };
-        return Drawn { point, state };
-    }
-    let point = at.point;
+    let turned = turn(p, at);
+    let point = turned.point;
     let state = Bresenham {
         point: plus(point, p.major),
-        error: error + gain,
+        error: turned.error + p.gain,
     };
     Drawn { point, state }
+}
+
+/// The place after a minor move where one is due, else the place itself.
+fn turn(p: Parameters, at: Bresenham) -> Bresenham
+    requires { ⌜ Sized p ⌝ }
+    requires { ⌜ Placed at ⌝ }
+    ensures { λ r. ⌜ r ≡ turned p at ⌝ }
+{
+    let threshold = p.threshold;
+    let error = at.error;
+    if threshold < error {
+        return Bresenham {
+            point: plus(at.point, p.minor),
+            error: error - p.loss,
+        };
+    }
+    at
 }
 
 /// One step forward across a line: Extra and a minor move where one is due, else Normal and a major move.
@@ -100,31 +106,17 @@ pub fn next_all(p: Parameters, at: Bresenham) -> Met
     requires { ⌜ Placed at ⌝ }
     ensures { λ r. ⌜ r ≡ nextAll p at ⌝ }
 {
-    let threshold = p.threshold;
-    let gain = p.gain;
-    let loss = p.loss;
-    let error = at.error;
     let point = at.point;
-    if threshold < error {
-        let state = Bresenham {
-            point: plus(point, p.minor),
-            error: error - loss,
-        };
-        return Met {
-            point,
-            extra: true,
-            state,
-        };
-    }
-    let state = Bresenham {
-        point: plus(point, p.major),
-        error: error + gain,
+    let error = at.error;
+    let turned = Bresenham {
+        point: plus(point, p.minor),
+        error: error - p.loss,
     };
-    Met {
-        point,
-        extra: false,
-        state,
-    }
+    let gone = Bresenham {
+        point: plus(point, p.major),
+        error: error + p.gain,
+    };
+    met(p.threshold < error, point, turned, gone)
 }
 
 /// One step back across a line: Extra and a minor move back where one is due, else Normal and a major move back.
@@ -133,30 +125,34 @@ pub fn previous_all(p: Parameters, at: Bresenham) -> Met
     requires { ⌜ Placed at ⌝ }
     ensures { λ r. ⌜ r ≡ previousAll p at ⌝ }
 {
-    let threshold = p.threshold;
-    let gain = p.gain;
-    let loss = p.loss;
-    let error = at.error;
     let point = at.point;
-    if error <= -threshold {
-        let state = Bresenham {
-            point: minus(point, p.minor),
-            error: error + loss,
-        };
+    let error = at.error;
+    let turned = Bresenham {
+        point: minus(point, p.minor),
+        error: error + p.loss,
+    };
+    let gone = Bresenham {
+        point: minus(point, p.major),
+        error: error - p.gain,
+    };
+    met(error <= -p.threshold, point, turned, gone)
+}
+
+/// A point across a line: Extra, with the place after a minor move, where one is due; else Normal, with that after a major move.
+fn met(due: bool, point: Point, turned: Bresenham, gone: Bresenham) -> Met
+    ensures { λ r. ⌜ r ≡ metAt due point turned gone ⌝ }
+{
+    if due {
         return Met {
             point,
             extra: true,
-            state,
+            state: turned,
         };
     }
-    let state = Bresenham {
-        point: minus(point, p.major),
-        error: error - gain,
-    };
     Met {
         point,
         extra: false,
-        state,
+        state: gone,
     }
 }
 
@@ -166,19 +162,8 @@ pub fn increase_error(p: Parameters, error: i64) -> Carried
     requires { ⌜ Within error stepLimit ⌝ }
     ensures { λ r. ⌜ r ≡ increased p error ⌝ }
 {
-    let threshold = p.threshold;
-    let loss = p.loss;
     let moved = error + p.gain;
-    if threshold < moved {
-        return Carried {
-            error: moved - loss,
-            carry: true,
-        };
-    }
-    Carried {
-        error: moved,
-        carry: false,
-    }
+    carried(p.threshold < moved, moved - p.loss, moved)
 }
 
 /// The same, one extra step back.
@@ -187,12 +172,17 @@ pub fn decrease_error(p: Parameters, error: i64) -> Carried
     requires { ⌜ Within error stepLimit ⌝ }
     ensures { λ r. ⌜ r ≡ decreased p error ⌝ }
 {
-    let threshold = p.threshold;
-    let loss = p.loss;
     let moved = error - p.gain;
-    if moved <= -threshold {
+    carried(moved <= -p.threshold, moved + p.loss, moved)
+}
+
+/// The settled error, and that it carried, where a carry is due; else the moved error.
+fn carried(due: bool, settled: i64, moved: i64) -> Carried
+    ensures { λ r. ⌜ r ≡ carriedAt due settled moved ⌝ }
+{
+    if due {
         return Carried {
-            error: moved + loss,
+            error: settled,
             carry: true,
         };
     }

@@ -4,26 +4,22 @@ use mathlib.Core.List.{List}
 use Prim.Native.Nat.{ℕ}
 use lib.Dec.{eqb}
 use lib.IntN.{ℤ, pos}
-use Rattle.shapes.specs.Limits.{pointLimit}
+use Rattle.shapes.specs.declared.limits.Limits.{Limits}
 use Rattle.shapes.specs.declared.Offset.{Offset}
 use Rattle.shapes.specs.declared.Offset.the-variants.{None}
 use Rattle.coordinates.specs.Refusal.{routeRefusal}
-use Rattle.route_joins.specs.Joins.{closedSegment, closedCount}
-use Rattle.route_joins.specs.Steps.{StepValues, stepAt, placeFrom}
+use Rattle.route_joins.specs.Steps.{StepValues, routeStep, placeFrom}
 use Rattle.closed_thick_segment_iter.specs.declared.Walk.{Walk}
 use Rattle.closed_thick_segment_iter.specs.declared.Started.{Started}
 
--- 1 to 4, or 0
-unfoldable pub walkRefusal : List ℤ → ℤ → ℕ
-walkRefusal cs w = routeRefusal pointLimit true cs w
-
-unfoldable pub started : List ℤ → ℤ → Offset → Started
-started cs w o =
-    let n = walkRefusal cs w in
+-- 1 to 4, k being the points' limit, with 0 for the rest; else a walk at the first segment
+unfoldable pub closedStart : ℕ → List ℤ → ℤ → Offset → Started
+closedStart k cs w o =
+    let n = routeRefusal k true cs w in
     cond (eqb n 0) (record { refusal = 0; walk = record { place = 0; width = w; offset = o } }) (record { refusal = n; walk = record { place = 0; width = pos 0; offset = None } })
 
-unfoldable pub stepOf : List ℤ → Walk → StepValues
-stepOf cs walk = stepAt (walkRefusal cs (walk .width)) (closedCount cs) (closedSegment cs (walk .width) (walk .offset)) (walk .place)
+unfoldable pub closedStep : Limits → List ℤ → Walk → StepValues
+closedStep limits cs walk = routeStep limits true cs (walk .width) (walk .offset) (walk .place)
 
-unfoldable pub walkAfter : List ℤ → Walk → Walk
-walkAfter cs walk = record { place = placeFrom (stepOf cs walk) (walk .place); width = walk .width; offset = walk .offset }
+unfoldable pub afterClosed : Limits → List ℤ → Walk → Walk
+afterClosed limits cs walk = record { place = placeFrom (closedStep limits cs walk) (walk .place); width = walk .width; offset = walk .offset }

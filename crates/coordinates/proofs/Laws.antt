@@ -10,8 +10,8 @@ use lib.IntN.{ℤ}
 use lib.ListN.{length}
 use Rattle.whole.proofs.Tests.{and-iff, or-iff, ltb-iff, eqb-iff, never, bad-first, bad-later, good-first, good-later}
 use Rattle.shapes.specs.Limits.{routePoints}
-use Rattle.line_join.specs.Miter.{Thin, isThin}
-use Rattle.line_join.proofs.Room.{thin-iff}
+use Rattle.shapes.specs.Strokes.{Thin, isThin, strokeRefusal}
+use Rattle.shapes.proofs.Widths.{thin-iff}
 use Rattle.coordinates.specs.Points.{pointCount}
 use Rattle.coordinates.specs.Refusal.{isOdd, isMiscounted, areWithin, routeRefusal, AllWithin, Accepted}
 use Rattle.coordinates.proofs.Lists.{count-within, within-exactly}
@@ -41,7 +41,7 @@ module _ (k : ℕ) (closed : Bool) (cs : List ℤ) (w : ℤ) where
 
   -- past the first tests
   after-odd : {Q : Type 0} {m : ℕ} → (1 ≡ m → ⊥) → (cond (isMiscounted closed (pointCount cs)) 2 (cond (isThin w) (cond (areWithin k cs) 0 4) 3) ≡ m) ↔ Q → (n ≡ m) ↔ ((Odd cs → ⊥) × Q)
-  unfolding routeRefusal
+  unfolding routeRefusal strokeRefusal
   after-odd = bad-later (isOdd cs) (odd-exactly cs)
 
   after-count : {Q : Type 0} {m : ℕ} → (1 ≡ m → ⊥) → (2 ≡ m → ⊥) → (cond (isThin w) (cond (areWithin k cs) 0 4) 3 ≡ m) ↔ Q
@@ -49,14 +49,14 @@ module _ (k : ℕ) (closed : Bool) (cs : List ℤ) (w : ℤ) where
   after-count one two q = after-odd one (bad-later (isMiscounted closed (pointCount cs)) (miscounted-exactly closed (pointCount cs)) two q)
 
   pub refused-1 : (n ≡ 1) ↔ Odd cs
-  unfolding routeRefusal
+  unfolding routeRefusal strokeRefusal
   refused-1 =
       bad-first (isOdd cs) (odd-exactly cs)
       (never (isMiscounted closed (pointCount cs)) (λ e. omega arith) (never (isThin w) (never (areWithin k cs) (λ e. omega arith) (λ e. omega arith)) (λ e. omega arith)))
 
   -- no other number is given
   pub refused-most : {m : ℕ} → 4 < m → n ≡ m → ⊥
-  unfolding routeRefusal
+  unfolding routeRefusal strokeRefusal
   refused-most h =
       never (isOdd cs) (λ e. omega (arith, e))
       (never (isMiscounted closed (pointCount cs)) (λ e. omega (arith, e)) (never (isThin w) (never (areWithin k cs) (λ e. omega (arith, e)) (λ e. omega (arith, e))) (λ e. omega (arith, e))))

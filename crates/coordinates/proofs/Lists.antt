@@ -11,10 +11,11 @@ use lib.IntN.{ℤ, pos}
 use lib.ListN.{length, getD, drop}
 use lib.Seq.{drop-cons, drop-length}
 use Rattle.whole.specs.Number.{isWithin, Within}
+use Rattle.whole.specs.Places.{listFrom}
 use Rattle.shapes.specs.Shape.{Near}
 use Rattle.whole.proofs.Laws.{true-within, within-true}
 use Rattle.whole.proofs.Tests.{and-left, and-right}
-use Rattle.coordinates.specs.Points.{pointAt, pointCount}
+use Rattle.coordinates.specs.Points.{pointAt, pointCount, pointsOf}
 use Rattle.coordinates.specs.Refusal.{isOdd, areWithin, AllWithin}
 
 -- ---- points and numbers
@@ -33,6 +34,28 @@ odd-true cs e h = lt-ltb (2 * pointCount cs) (length cs) (omega (arith, e))
 pub odd-false : {n : ℕ} (cs : List ℤ) → n ≡ pointCount cs → length cs ≤ 2 * n → isOdd cs ≡ false
 unfolding isOdd
 odd-false cs e h = le-ltb (2 * pointCount cs) (length cs) (omega (arith, e))
+
+-- ---- the points in turn are those by their places
+
+point-behind : (x y : ℤ) (cs : List ℤ) (k : ℕ) → pointAt (x ∷ y ∷ cs) (suc k) ≡ pointAt cs k
+unfolding pointAt
+point-behind x y cs k =
+    let even : 2 * suc k ≡ suc (suc (2 * k)) = omega arith in
+    let odd : 2 * suc k + 1 ≡ suc (suc (2 * k + 1)) = omega arith in
+    rw (odd, even)
+
+points-behind : (x y : ℤ) (cs : List ℤ) (n k : ℕ) → listFrom (pointAt (x ∷ y ∷ cs)) (suc k) n ≡ listFrom (pointAt cs) k n
+unfolding listFrom
+points-behind x y cs zero k = refl
+points-behind x y cs (suc n) k = rw (point-behind x y cs k, points-behind x y cs n (suc k))
+
+pub points-in-turn : (cs : List ℤ) → pointsOf cs ≡ listFrom (pointAt cs) 0 (pointCount cs)
+unfolding pointsOf listFrom pointCount pointAt
+points-in-turn [] = refl
+points-in-turn (x ∷ []) = refl
+points-in-turn (x ∷ y ∷ cs) =
+    let n : pointCount (x ∷ y ∷ cs) ≡ suc (pointCount cs) = omega arith in
+    rw (n, points-in-turn cs, points-behind x y cs (pointCount cs) 0)
 
 -- ---- the test of all numbers from place i on
 

@@ -9,8 +9,8 @@ use lib.IntN.{ℤ, pos}
 use lib.ListN.{length, getD}
 use Rattle.whole.specs.Number.{Within, isWithin}
 use Rattle.shapes.specs.Limits.{routePoints}
-use Rattle.shapes.specs.Refusals.{oddRefused, pointsRefused, widthRefused, coordinateRefused}
-use Rattle.line_join.specs.Miter.{Thin, isThin}
+use Rattle.shapes.specs.Refusals.{oddRefused, pointsRefused}
+use Rattle.shapes.specs.Strokes.{Thin, strokeRefusal}
 use Rattle.coordinates.specs.Points.{pointCount}
 
 -- a number is left over
@@ -29,8 +29,7 @@ areWithin k (c ∷ cs) = isWithin k c && areWithin k cs
 unfoldable pub routeRefusal : ℕ → Bool → List ℤ → ℤ → ℕ
 routeRefusal k closed cs w =
     cond (isOdd cs) oddRefused
-    (cond (isMiscounted closed (pointCount cs)) pointsRefused
-    (cond (isThin w) (cond (areWithin k cs) 0 coordinateRefused) widthRefused))
+    (cond (isMiscounted closed (pointCount cs)) pointsRefused (strokeRefusal w (areWithin k cs)))
 
 pub record AllWithin (k : ℕ) (cs : List ℤ) : Type 0 where
   pub within : (i : ℕ) → Within (getD cs i (pos 0)) k

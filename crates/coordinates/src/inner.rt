@@ -1,10 +1,14 @@
-//! One point of a list, and the tests that a list is refused by.
+//! Points of a list by their place, and what a list is refused with, for any limit of its coordinates.
 ghost use mathlib.Core.Path.{_≡_};
 ghost use Prim.Native.Nat.{_<_};
-ghost use Rattle.coordinates.specs.Points.{pointAt, pointCount};
-ghost use Rattle.coordinates.specs.Refusal.{areWithin, isMiscounted};
+ghost use Rattle.coordinates.specs.Points.{pointAt, pointCount, placeAfter, placeBefore};
+ghost use Rattle.coordinates.specs.Refusal.{areWithin, isMiscounted, routeRefusal};
+use crate::point_count;
 use shapes::Point;
 use shapes::limits::ROUTE_POINTS;
+use shapes::refusals::ODD;
+use shapes::refusals::POINTS;
+use shapes::strokes::stroke_refusal;
 use whole::inner::within;
 
 /// The point at place `i`.
@@ -18,8 +22,44 @@ pub fn point_at(coordinates: &[i64], i: usize) -> Point
     }
 }
 
+/// The place after `i` of `count`, round the route.
+pub fn place_after(count: usize, i: usize) -> usize
+    requires { ⌜ i < count ⌝ }
+    ensures { λ r. ⌜ r ≡ placeAfter count i ⌝ }
+{
+    if i + 1 == count {
+        return 0;
+    }
+    i + 1
+}
+
+/// The place before `i` of `count`, round the route.
+pub fn place_before(count: usize, i: usize) -> usize
+    requires { ⌜ i < count ⌝ }
+    ensures { λ r. ⌜ r ≡ placeBefore count i ⌝ }
+{
+    if i == 0 {
+        return count - 1;
+    }
+    i - 1
+}
+
+/// What the list and the width of a route are refused with, or 0, for coordinates from `-limit` to `limit`: 1 to 4, in this order.
+pub fn refusal(coordinates: &[i64], width: i64, closed: bool, limit: u32) -> u64
+    ensures { λ r. ⌜ r ≡ routeRefusal limit closed (now (coordinates .entry)) width ⌝ }
+{
+    let count = point_count(coordinates);
+    if 2 * count < coordinates.len() {
+        return ODD;
+    }
+    if is_miscounted(count, closed) {
+        return POINTS;
+    }
+    stroke_refusal(width, are_within(coordinates, limit))
+}
+
 /// Whether there are more than 256 points, or one of a closed route.
-pub fn is_miscounted(count: usize, closed: bool) -> bool
+fn is_miscounted(count: usize, closed: bool) -> bool
     ensures { λ r. ⌜ r ≡ isMiscounted closed count ⌝ }
 {
     if ROUTE_POINTS < count {
@@ -29,7 +69,7 @@ pub fn is_miscounted(count: usize, closed: bool) -> bool
 }
 
 /// Whether every number of a list is from `-limit` to `limit`.
-pub fn are_within(coordinates: &[i64], limit: u32) -> bool
+fn are_within(coordinates: &[i64], limit: u32) -> bool
     ensures { λ r. ⌜ r ≡ areWithin limit (now (coordinates .entry)) ⌝ }
 {
     let mut i: usize = 0;

@@ -4,16 +4,9 @@ ghost use Rattle.shapes.specs.Limits.{pointLimit};
 ghost use Rattle.coordinates.specs.Points.{pointCount};
 ghost use Rattle.coordinates.specs.Refusal.{routeRefusal};
 
-pub mod inner; // inner.rt: one point of a list, and the tests
+pub mod inner; // inner.rt: points by their place, and the chain of refusals for any limit
 
-use inner::are_within;
-use inner::is_miscounted;
-use line_join::miter::is_thin;
 use shapes::limits::POINT;
-use shapes::refusals::COORDINATE;
-use shapes::refusals::ODD;
-use shapes::refusals::POINTS;
-use shapes::refusals::WIDTH;
 
 /// How many points a list of numbers has; a number that is left over at its end is none.
 pub fn point_count(coordinates: &[i64]) -> usize
@@ -27,18 +20,5 @@ pub fn point_count(coordinates: &[i64]) -> usize
 pub fn refusal(coordinates: &[i64], width: i64, closed: bool) -> u64
     ensures { λ r. ⌜ r ≡ routeRefusal pointLimit closed (now (coordinates .entry)) width ⌝ }
 {
-    let count = point_count(coordinates);
-    if 2 * count < coordinates.len() {
-        return ODD;
-    }
-    if is_miscounted(count, closed) {
-        return POINTS;
-    }
-    if is_thin(width) {
-        if are_within(coordinates, POINT) {
-            return 0;
-        }
-        return COORDINATE;
-    }
-    WIDTH
+    inner::refusal(coordinates, width, closed, POINT)
 }

@@ -10,7 +10,7 @@ use Rattle.shapes.specs.declared.Line.{Line}
 use Rattle.shapes.specs.Limits.{crossingLimit}
 use Rattle.shapes.specs.Shape.{LineNear, pointOf, lineOf, isNear, isLineNear, minus, quarterTurn, determinant, dotProduct, delta}
 use Rattle.shapes.proofs.Laws.{true-line-near}
-use Rattle.linear_equation.specs.Equation.{equationOf, distanceOf, isOnSide, areNear as pointNear, sideAnswer}
+use Rattle.linear_equation.specs.Equation.{equationOf, distanceOf, isOnSide, areInside, sideAnswer}
 use Rattle.intersection_params.specs.declared.Intersection.the-variants.{Colinear}
 use Rattle.intersection_params.specs.Crossing.{cramerOf, solutionOf, sideOf, drawnOf, crossingOf, nearlyColinear, areNear, crossingValues, crossingAnswer}
 use Rattle.intersection_params.specs.Words.{bend}
@@ -49,6 +49,6 @@ unfolding Holds nearlyColinear
 by-deltas p q t e a b ha hb da db = nearly-chosen crossingLimit a b .holds (ha, hb) ∙ simp (determinant-directions a b, da, db, e)
 
 pub corners : Every cases
-unfolding cases Every Holds crossingAnswer crossingValues areNear isLineNear isNear isWithin crossingOf drawnOf sideOf rounded solutionOf cramerOf equationOf determinant dotProduct quarterTurn delta minus sideAnswer pointNear isOnSide distanceOf reached after begun offered withOffer withSpan withRun joined isInside follows offerRefusal isSound isAscending live boardOf listed listedTo over flat listRefusal total freshRefusal greater lesser
+unfolding cases Every Holds crossingAnswer crossingValues areNear isLineNear isNear isWithin crossingOf drawnOf sideOf rounded solutionOf cramerOf equationOf determinant dotProduct quarterTurn delta minus sideAnswer areInside isOnSide distanceOf reached after begun offered withOffer withSpan withRun joined isInside follows offerRefusal isSound isAscending live boardOf listed listedTo over flat listRefusal total freshRefusal greater lesser
 corners =
     (refl, (refl, (refl, (refl, (refl, (with-any, (by-deltas _ _ false refl, (by-deltas _ _ true refl, ((refl, refl), ((refl, refl), (legs-of-216, ((refl, refl), ((refl, refl), tt)))))))))))))

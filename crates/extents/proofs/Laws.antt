@@ -6,7 +6,6 @@ use mathlib.Core.List.{[]}
 use Prim.Native.Nat.{ℕ, zero, suc, _+_, _*_, _≤_}
 use native.Mathlib.Nat.{le-refl}
 use native.Mathlib.Omega.{arith}
-use lib.Dec.{lit≤}
 use lib.IntN.{ℤ, pos, natAbs}
 use Rattle.whole.proofs.Steps.{far-none, there-and-back, end-near, short-near}
 use Rattle.shapes.specs.declared.Point.{Point}
@@ -14,15 +13,17 @@ use Rattle.shapes.specs.declared.Line.{Line}
 use Rattle.shapes.specs.declared.Side.{Side}
 use Rattle.shapes.specs.declared.Side.the-variants.{Left, Right}
 use Rattle.shapes.specs.declared.Offset.{Offset}
-use Rattle.shapes.specs.Limits.{pointLimit, crossingLimit, widthLimit, lineLimit}
+use Rattle.shapes.specs.Limits.{widthLimit, lineLimit}
 use Rattle.shapes.specs.Shape.{Near, LineNear, plus, minus, delta}
+use Rattle.shapes.specs.Strokes.{Thin}
 use Rattle.shapes.proofs.Laws.{near-more, line-near-more}
+use Rattle.shapes.proofs.Widths.{thin-within}
 use Rattle.bresenham.specs.declared.Parameters.{Parameters}
 use Rattle.bresenham.specs.Walk.{Fair}
 use Rattle.parallels.specs.declared.Plan.{Plan}
 use Rattle.parallels.specs.declared.Parallels.{Parallels}
 use Rattle.parallels.specs.declared.Parallel.{Parallel}
-use Rattle.parallels.specs.Parallels.{isDone, yieldOf, parallelsFrom, spare, parallels, parallelsOf, planOf, startOf, Sound, Begun, Going}
+use Rattle.parallels.specs.Parallels.{thickLimit, isDone, yieldOf, parallelsFrom, spare, parallels, parallelsOf, planOf, startOf, Sound, Begun, Going}
 use Rattle.parallels.proofs.Steps.{Away}
 use Rattle.parallels.proofs.Laws.{shift, yield-away, going-next, parallels-end, done-at-zero}
 use Rattle.parallels.proofs.Plans.{going-start, sound-plan}
@@ -66,7 +67,7 @@ pub lasts-end : (plan : Plan) (s : Parallels) (ends : Ends) → isDone plan s �
 unfolding lasts
 lasts-end plan s ends e = rw (parallels-end plan s e)
 
-pub lasts-turn : {plan : Plan} {s : Parallels} (ends : Ends) → Sound widthLimit plan → Begun widthLimit plan s → isDone plan s ≡ false → lasts ends (parallels plan s) ≡ lasts (seen ends (yieldOf plan s .parallel)) (parallels plan (yieldOf plan s .state))
+pub lasts-turn : {plan : Plan} {s : Parallels} (ends : Ends) → Sound thickLimit plan → Begun thickLimit plan s → isDone plan s ≡ false → lasts ends (parallels plan s) ≡ lasts (seen ends (yieldOf plan s .parallel)) (parallels plan (yieldOf plan s .state))
 unfolding lasts
 lasts-turn ends h b e = rw (begun-turn h b e)
 
@@ -125,9 +126,10 @@ module _ (k w : ℕ) (l : Line) (width : ℤ) (offset : Offset) (h : LineNear k 
 pub edges-more : {j k : ℕ} {e : Edges} → EdgesNear j e → j ≤ k → EdgesNear k e
 edges-more h le = record { left-near = line-near-more (h .left-near) le; right-near = line-near-more (h .right-near) le }
 
--- 01: edges of an accepted route stay within 1,023
-pub edges-within : (l : Line) (width : ℤ) (offset : Offset) → LineNear pointLimit l → natAbs width ≤ widthLimit → EdgesNear crossingLimit (extentsOf l width offset)
-edges-within l width offset h small = edges-more (edges-near pointLimit widthLimit l width offset h (lit≤ tt) small) (lit≤ tt)
+-- 01: edges of an accepted route stay within 1,023. Over the limits: a line within k has edges within j for every width from 0 to 64,
+-- where j leaves room for them; 511 and 1,023 do, and 2,047 and 2,559
+pub edges-within : {j k : ℕ} (l : Line) {width : ℤ} (offset : Offset) → LineNear k l → Thin width → k ≤ lineLimit → k + (4 * widthLimit + 3) ≤ j → EdgesNear j (extentsOf l width offset)
+edges-within {k} l {width} offset near thin fits room = edges-more (edges-near k widthLimit l width offset near fits (thin-within thin .bound)) room
 
 -- ---- width 0
 

@@ -1,12 +1,12 @@
 //! The edges of a thick line.
 ghost use mathlib.Core.Path.{_≡_};
-ghost use Rattle.shapes.specs.Limits.{lineLimit, widthLimit};
+ghost use Rattle.shapes.specs.Limits.{lineLimit};
 ghost use Rattle.shapes.specs.Shape.{Near, LineNear};
 ghost use Rattle.whole.specs.Number.{Within};
 ghost use Rattle.bresenham.specs.Walk.{stepLimit, Sized};
-ghost use Rattle.parallels.specs.Parallels.{Sound, Begun, parallels};
+ghost use Rattle.parallels.specs.Parallels.{thickLimit, Sound, Begun, parallels};
 ghost use Rattle.extents.specs.Entry.{refusedWith};
-ghost use Rattle.extents.specs.Edges.{seen, lasts, closed, extentsOf};
+ghost use Rattle.extents.specs.Edges.{freshEnds, seen, lasts, closed, extentsOf};
 use crate::Answer;
 use crate::Edge;
 use crate::Edges;
@@ -26,6 +26,21 @@ use shapes::Side;
 use shapes::inner::delta;
 use shapes::inner::minus;
 use shapes::inner::plus;
+
+/// The ends before the first parallel: both edges begin at the line's start.
+pub fn fresh_ends(line: Line) -> Ends
+    ensures { λ r. ⌜ r ≡ freshEnds line ⌝ }
+{
+    let point = line.start;
+    let fresh = Edge {
+        point,
+        extra: false,
+    };
+    Ends {
+        left: fresh,
+        right: fresh,
+    }
+}
 
 /// The ends after one more parallel: it replaces the one of its side.
 pub fn see(ends: Ends, parallel: Parallel) -> Ends
@@ -48,8 +63,8 @@ pub fn see(ends: Ends, parallel: Parallel) -> Ends
 
 /// The last parallels of both sides, from a state on.
 pub fn last_ends(plan: Plan, state: Parallels, ends: Ends) -> Ends
-    requires { ⌜ Sound widthLimit plan ⌝ }
-    requires { ⌜ Begun widthLimit plan state ⌝ }
+    requires { ⌜ Sound thickLimit plan ⌝ }
+    requires { ⌜ Begun thickLimit plan state ⌝ }
     ensures { λ r. ⌜ r ≡ lasts ends (parallels plan state) ⌝ }
 {
     let mut at = state;
@@ -86,20 +101,11 @@ pub fn close(line: Line, along: Parameters, edge: Edge) -> Line
 /// The left and the right edge of a line, for a width and an offset.
 pub fn extents(line: Line, width: i64, offset: Offset) -> Edges
     requires { ⌜ LineNear lineLimit line ⌝ }
-    requires { ⌜ Within width widthLimit ⌝ }
+    requires { ⌜ Within width thickLimit ⌝ }
     ensures { λ r. ⌜ r ≡ extentsOf line width offset ⌝ }
 {
     let plan = plan_of(line, width, offset);
-    let point = line.start;
-    let fresh = Edge {
-        point,
-        extra: false,
-    };
-    let ends = Ends {
-        left: fresh,
-        right: fresh,
-    };
-    let last = last_ends(plan, start(plan, point), ends);
+    let last = last_ends(plan, start(plan, line.start), fresh_ends(line));
     Edges {
         left: close(line, plan.parallel, last.left),
         right: close(line, plan.parallel, last.right),

@@ -2,11 +2,14 @@
 pub mod inner; // inner.rt: the edges of a line that is known to be within its limits
 
 ghost use mathlib.Core.Path.{_≡_};
+ghost use Rattle.shapes.specs.Limits.{pointLimit};
 ghost use Rattle.extents.specs.Entry.{answerOf};
-use parallels::inner::refusal;
 use shapes::Line;
 use shapes::Offset;
 use shapes::Point;
+use shapes::inner::is_line_near;
+use shapes::limits::POINT;
+use shapes::strokes::stroke_refusal;
 
 /// Where an edge begins, and whether its parallel is an Extra one, which is a pixel shorter.
 pub struct Edge {
@@ -35,10 +38,10 @@ pub struct Answer {
 
 /// The left and the right edge of a line. Refuses with 3 a width outside 0 to 64, then with 4 a coordinate outside 511.
 pub fn extents(line: Line, width: i64, offset: Offset) -> Answer
-    ensures { λ r. ⌜ r ≡ answerOf line width offset ⌝ }
+    ensures { λ r. ⌜ r ≡ answerOf pointLimit line width offset ⌝ }
 {
-    let number = refusal(line, width);
-    if 0 < number {
+    let number = stroke_refusal(width, is_line_near(line, POINT));
+    if number != 0 {
         return inner::refused(number);
     }
     let edges = inner::extents(line, width, offset);

@@ -10,7 +10,7 @@ use lib.Signed.{ltZ, _<ℤ_}
 use Rattle.whole.specs.Number.{eqZ}
 use Rattle.whole.specs.Rounded.{rounded}
 use Rattle.whole.proofs.Laws.{rounded-nearest, nearest-unique, nearest-ratio}
-use Rattle.whole.proofs.Machine.{eqZ-no}
+use Rattle.whole.proofs.Orders.{eqZ-no}
 use Rattle.whole.proofs.Ring.{con, neg, _⊕_, _⊖_, _⊗_, _≈_, since, ring}
 use Rattle.whole.proofs.Tests.{and-iff, lt-iff, Chosen, chosen, chosen-exactly}
 use Rattle.shapes.specs.declared.Point.{Point}
@@ -23,7 +23,7 @@ use Rattle.linear_equation.specs.Equation.{equationOf}
 use Rattle.intersection_params.specs.declared.Solution.{Solution}
 use Rattle.intersection_params.specs.declared.Intersection.{Intersection}
 use Rattle.intersection_params.specs.declared.Intersection.the-variants.{At, Colinear, Refused}
-use Rattle.intersection_params.specs.Crossing.{cramerOf, solutionOf, sideOf, drawnOf, crossingOf, nearlyColinear, areNear, CrossingValues, crossingValues, crossingAnswer, nearlyAnswer}
+use Rattle.intersection_params.specs.Crossing.{cramerOf, solutionOf, sideOf, drawnOf, crossingOf, nearlyColinear, areLinesNear, CrossingValues, crossingValues, crossingAnswer, nearlyAnswer}
 use Rattle.intersection_params.specs.Words.{bend, OnLine, TrueCrossing, SamePoint, IsDrawn}
 
 -- ---- the numerators over the determinant are the true crossing, and nothing else is
@@ -89,7 +89,7 @@ left-negative d =
     let order = lt-iff d (pos 0) in
     (λ s. order .0 (test .0 s), λ h. test .1 (order .1 h))
 
-one-side : (s t : Side) {P : Type 0} → (s ≡ Left) ↔ P → (t ≡ Left) ↔ P → s ≡ t
+pub one-side : (s t : Side) {P : Type 0} → (s ≡ Left) ↔ P → (t ≡ Left) ↔ P → s ≡ t
 one-side Left t p q = sym (q .1 (p .0 refl))
 one-side Right Left p q = p .1 (q .0 refl)
 one-side Right Right p q = refl
@@ -167,20 +167,20 @@ values-tell r s e = sym (read-back r) ∙ ap readBack e ∙ read-back s
 abbrev pub Inside : ℕ → Line → Line → Type 0
 Inside k a b = LineNear k a × LineNear k b
 
-pub near-exactly : (k : ℕ) (a b : Line) → (areNear k a b ≡ true) ↔ Inside k a b
-unfolding areNear
+pub near-exactly : (k : ℕ) (a b : Line) → (areLinesNear k a b ≡ true) ↔ Inside k a b
+unfolding areLinesNear
 near-exactly k a b = and-iff (isLineNear k a) (isLineNear k b) (line-near-iff k a) (line-near-iff k b)
 
 -- inside the limit the crossing, else refusal 4 with 0 in every other value
 pub crossing-chosen : (k : ℕ) (a b : Line) → Chosen (Inside k a b) (crossingAnswer k a b) (crossingValues (crossingOf a b)) (record { refusal = 4; found = 0; x = pos 0; y = pos 0 })
 unfolding crossingAnswer crossingValues
 crossing-chosen k a b =
-    let c = chosen (areNear k a b) (crossingOf a b) (Refused 4) (near-exactly k a b) in
+    let c = chosen (areLinesNear k a b) (crossingOf a b) (Refused 4) (near-exactly k a b) in
     record { holds = λ h. ap crossingValues (c .holds h); fails = λ n. ap crossingValues (c .fails n) }
 
 pub nearly-chosen : (k : ℕ) (a b : Line) → Chosen (Inside k a b) (nearlyAnswer k a b) (record { refusal = 0; holds = nearlyColinear a b }) (record { refusal = 4; holds = false })
 unfolding nearlyAnswer
-nearly-chosen k a b = chosen (areNear k a b) _ _ (near-exactly k a b)
+nearly-chosen k a b = chosen (areLinesNear k a b) _ _ (near-exactly k a b)
 
 unrefused-by : (t : Bool) (p : Point) (s : Side) → crossingValues (cond t Colinear (At p s)) .refusal ≡ 0
 unfolding crossingValues

@@ -9,7 +9,7 @@ use Rattle.shapes.proofs.Laws.{within-determinant}
 use Rattle.linear_equation.specs.declared.LinearEquation.{LinearEquation}
 use Rattle.linear_equation.specs.Equation.{Tame}
 use Rattle.linear_equation.proofs.Laws.{tame, line-room}
-use Rattle.intersection_params.specs.Crossing.{Roomy, cramerOf, solutionOf, areNear}
+use Rattle.intersection_params.specs.Crossing.{Roomy, cramerOf, solutionOf, areLinesNear}
 
 pub roomy : {a b : LinearEquation} → Tame a → Tame b → Roomy (cramerOf a b)
 unfolding cramerOf
@@ -25,10 +25,10 @@ unfolding solutionOf
 solution-roomy h i = roomy (tame h) (tame i)
 
 -- what passes the entries' tests is small enough
-pub near-first : (a b : Line) → areNear crossingLimit a b ≡ true → LineNear lineLimit a
-unfolding areNear
+pub near-first : (a b : Line) → areLinesNear crossingLimit a b ≡ true → LineNear lineLimit a
+unfolding areLinesNear
 near-first a b e = line-room a (and-left (isLineNear crossingLimit a) (isLineNear crossingLimit b) e)
 
-pub near-second : (a b : Line) → areNear crossingLimit a b ≡ true → LineNear lineLimit b
-unfolding areNear
+pub near-second : (a b : Line) → areLinesNear crossingLimit a b ≡ true → LineNear lineLimit b
+unfolding areLinesNear
 near-second a b e = line-room b (and-right (isLineNear crossingLimit a) (isLineNear crossingLimit b) e)

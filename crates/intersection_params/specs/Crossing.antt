@@ -76,12 +76,12 @@ crossingValues Colinear = record { refusal = 0; found = 1; x = pos 0; y = pos 0 
 crossingValues (Refused n) = record { refusal = n; found = 0; x = pos 0; y = pos 0 }
 
 -- whether both lines are inside the limit
-unfoldable pub areNear : ℕ → Line → Line → Bool
-areNear k a b = isLineNear k a && isLineNear k b
+unfoldable pub areLinesNear : ℕ → Line → Line → Bool
+areLinesNear k a b = isLineNear k a && isLineNear k b
 
 unfoldable pub crossingAnswer : ℕ → Line → Line → CrossingValues
-crossingAnswer k a b = crossingValues (cond (areNear k a b) (crossingOf a b) (Refused coordinateRefused))
+crossingAnswer k a b = crossingValues (cond (areLinesNear k a b) (crossingOf a b) (Refused coordinateRefused))
 
 unfoldable pub nearlyAnswer : ℕ → Line → Line → Tested
 nearlyAnswer k a b =
-    cond (areNear k a b) (record { refusal = 0; holds = nearlyColinear a b }) (record { refusal = coordinateRefused; holds = false })
+    cond (areLinesNear k a b) (record { refusal = 0; holds = nearlyColinear a b }) (record { refusal = coordinateRefused; holds = false })

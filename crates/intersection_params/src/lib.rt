@@ -1,7 +1,7 @@
 //! Where two lines cross, and whether they run so nearly alike that rounding spoils the crossing: `intersection_params.rs`.
 ghost use mathlib.Core.Path.{_≡_};
 ghost use Rattle.shapes.specs.Limits.{crossingLimit};
-ghost use Rattle.intersection_params.specs.Crossing.{areNear, crossingValues, crossingAnswer, nearlyAnswer};
+ghost use Rattle.intersection_params.specs.Crossing.{areLinesNear, crossingValues, crossingAnswer, nearlyAnswer};
 
 pub mod inner; // inner.rt: the same without the tests
 
@@ -12,6 +12,7 @@ use shapes::Side;
 use shapes::inner::is_line_near;
 use shapes::limits::CROSSING;
 use shapes::refusals::COORDINATE;
+use whole::inner::both;
 
 /// What two lines, made longer without end, have in common.
 pub enum Intersection {
@@ -64,11 +65,10 @@ pub fn nearly_colinear(first: Line, second: Line) -> Tested
 
 /// Whether both lines are inside the limit.
 fn are_near(first: Line, second: Line) -> bool
-    ensures { λ r. ⌜ r ≡ areNear crossingLimit first second ⌝ }
+    ensures { λ r. ⌜ r ≡ areLinesNear crossingLimit first second ⌝ }
 {
-    if is_line_near(first, CROSSING) {
-        is_line_near(second, CROSSING)
-    } else {
-        false
-    }
+    both(
+        is_line_near(first, CROSSING),
+        is_line_near(second, CROSSING),
+    )
 }

@@ -3,17 +3,18 @@
 use mathlib.Core.Path.{_≡_, refl, sym, ap, _∙_}
 use mathlib.Core.Logic.{_↔_}
 use mathlib.Core.Bool.{Bool, true, false, cond}
-use Prim.Native.Nat.{ℕ}
+use Prim.Native.Nat.{ℕ, _+_, _*_, _≤_}
 use native.Mathlib.Omega.{arith}
-use borrow.Author.Tests.{eqb-true, ne-eqb}
-use lib.Dec.{eqb, lit≤}
+use borrow.Author.Tests.{eqb-false, ne-eqb}
+use lib.Dec.{eqb}
 use lib.IntN.{ℤ}
-use Rattle.whole.proofs.Tests.{and-iff, eqb-iff, Chosen, chosen, never, bad-first, good-first, good-later}
+use Rattle.whole.proofs.Tests.{and-iff, Chosen, chosen, never, bad-first, good-first, good-later}
 use Rattle.shapes.specs.declared.Point.{Point}
 use Rattle.shapes.specs.declared.Side.the-variants.{Left, Right}
 use Rattle.shapes.specs.declared.Offset.{Offset}
-use Rattle.shapes.specs.Limits.{pointLimit, cornerLimit}
-use Rattle.shapes.specs.Shape.{Near, LineNear, lineOf, isNear, isLineNear}
+use Rattle.shapes.specs.declared.limits.Limits.{Limits}
+use Rattle.shapes.specs.Limits.{widthLimit, lineLimit}
+use Rattle.shapes.specs.Shape.{Near, LineNear, lineOf, isNear, isLineNear, noLine}
 use Rattle.shapes.proofs.Laws.{near-iff, line-near-iff}
 use Rattle.intersection_params.specs.declared.Intersection.the-variants.{Colinear, Refused}
 use Rattle.line_join.specs.declared.Kind.{Kind}
@@ -25,126 +26,126 @@ use Rattle.line_join.specs.declared.Filler.{Filler}
 use Rattle.line_join.specs.declared.Filler.the-variants as filler
 use Rattle.line_join.specs.declared.Caps.{Caps}
 use Rattle.line_join.specs.declared.Caps.the-variants as caps
-use Rattle.line_join.specs.Miter.{Thin, isThin}
+use Rattle.shapes.specs.Strokes.{Thin, isThin, strokeRefusal}
 use Rattle.line_join.specs.Caps.{JoinNear, isJoinNear, fillerOf, startCapsOf, endCapsOf, isDegenerate}
 use Rattle.line_join.specs.Words.{Refusals}
 use Rattle.line_join.specs.Join.{startOf, endOf, joinOf}
-use Rattle.line_join.specs.Answers.{areNear, startAnswer, endAnswer, pointsAnswer, inputRefusal, cornerRefusal, joinRefusal, checkedOf, answerOf, fillerAnswer, startCapsAnswer, endCapsAnswer, degenerateAnswer}
-use Rattle.line_join.specs.Answers.{noLine, noCorners, kindNumber, JoinValues, joinValues, FillerValues, fillerValues, CapsValues, capsValues}
+use Rattle.line_join.specs.Answers.{noCorners, kindNumber, JoinValues, joinValues, FillerValues, fillerValues, CapsValues, capsValues}
+use Rattle.line_join.specs.Answers.{madeOf, answerOf, startAnswer, endAnswer, pointsAnswer, fillerAnswer, startCapsAnswer, endCapsAnswer, degenerateAnswer}
 use Rattle.line_join.proofs.Laws.{start-within, end-within}
-use Rattle.line_join.proofs.Room.{thin-iff, line-of-near, join-near-more, join-near-iff}
+use Rattle.shapes.proofs.Widths.{thin-iff, stroke-none}
+use Rattle.line_join.proofs.Room.{join-near-iff}
 
--- ---- refusals
-
-admitted-by : (w : ℤ) (near t : Bool) → isThin w ≡ t → _≡_ {A = ℕ} (cond t (cond near 0 4) 3) 0 → Thin w × (near ≡ true)
-admitted-by w true true e f = (thin-iff w .0 e, refl)
-admitted-by w false true e f = absurd (omega arith)
-admitted-by w near false e f = absurd (omega arith)
-
--- three points are inside the limit
-pub near-exactly : (a b c : Point) → (areNear a b c ≡ true) ↔ (Near pointLimit a × (Near pointLimit b × Near pointLimit c))
-unfolding areNear
-near-exactly a b c =
-    let both = and-iff (isLineNear pointLimit (lineOf a b)) (isNear pointLimit c) (line-near-iff pointLimit (lineOf a b)) (near-iff pointLimit c) in
-    (λ e. let h = both .0 e in (h .0 .start-near, (h .0 .end-near, h .1)), λ h. both .1 (line-of-near (h .0) (h .1 .0), h .1 .1))
+-- ---- the constructors
 
 -- what an entry knows of its input's refusal n
-module _ (w : ℤ) (near : Bool) {n : ℕ} (is : n ≡ inputRefusal w near) where
+module _ (k : ℕ) (w : ℤ) (near : Bool) {n : ℕ} (is : n ≡ strokeRefusal w near) where
   -- with none the input is inside the limits
   pub admitted : n ≡ 0 → Thin w × (near ≡ true)
-  unfolding inputRefusal
-  admitted e = admitted-by w near (isThin w) refl (sym is ∙ e)
+  admitted e = stroke-none w {near = near} (λ e. e, λ e. e) .0 (sym is ∙ e)
 
-  -- and the answer is the join, unless a corner is beyond the limit
-  pub answer-checked : {r : Joined} {i : Join} (j : Join) → n ≡ 0 → r ≡ checkedOf i → i ≡ j → joinValues r ≡ answerOf w near j
-  unfolding answerOf joinRefusal checkedOf
-  answer-checked j e f g = simp (f, g, sym is ∙ e)
+  -- and the answer is what is made of the join
+  pub answer-made : {r : Joined} (j : Join) → n ≡ 0 → r ≡ madeOf k j → joinValues r ≡ answerOf k w near j
+  unfolding answerOf
+  answer-made j e f = simp (f, sym is ∙ e)
 
   -- else the answer is n
-  pub answer-refused : (j : Join) → (n ≡ 0 → ⊥) → joinValues (joined.Refused n) ≡ answerOf w near j
-  unfolding answerOf joinRefusal
+  pub answer-refused : (j : Join) → (n ≡ 0 → ⊥) → joinValues (joined.Refused n) ≡ answerOf k w near j
+  unfolding answerOf
   answer-refused j h = simp (sym is, ne-eqb n 0 h)
 
--- the chain, by its three tests
-chain-by : (t n c : Bool) → _≡_ {A = ℕ} (cond (eqb (cond t (cond n 0 4) 3) 0) (cond c 0 5) (cond t (cond n 0 4) 3)) (cond t (cond n (cond c 0 5) 4) 3)
-chain-by true true c = refl
-chain-by true false c = refl
-chain-by false n c = refl
-
-answer-by : (n : ℕ) (j : Join) (t : Bool) → eqb n 0 ≡ t → joinValues (cond t (joined.Made j) (joined.Refused n)) .refusal ≡ n
+made-by : (j : Join) (t : Bool) → joinValues (cond t (joined.Made j) (joined.Refused 5)) .refusal ≡ cond t 0 5
 unfolding joinValues
-answer-by n j true e = sym (eqb-true n 0 e)
-answer-by n j false e = refl
+made-by j true = refl
+made-by j false = refl
+
+made-refusal : (k : ℕ) (j : Join) → joinValues (madeOf k j) .refusal ≡ cond (isJoinNear k j) 0 5
+unfolding madeOf
+made-refusal k j = made-by j (isJoinNear k j)
+
+-- the chain, by its three tests
+chain-by : (k : ℕ) (j : Join) (t n : Bool) → joinValues (cond (eqb (cond t (cond n 0 4) 3) 0) (madeOf k j) (joined.Refused (cond t (cond n 0 4) 3))) .refusal ≡ cond t (cond n (cond (isJoinNear k j) 0 5) 4) 3
+unfolding joinValues
+chain-by k j true true = made-refusal k j
+chain-by k j true false = refl
+chain-by k j false n = refl
 
 -- 3, 4 and 5 in this order: each exactly when it is the first that holds
-pub refusal-exactly : {P : Type 0} (w : ℤ) (near : Bool) (j : Join) → (near ≡ true) ↔ P → Refusals (Thin w) P (JoinNear cornerLimit j) (answerOf w near j .refusal)
-unfolding answerOf joinRefusal inputRefusal cornerRefusal
-refusal-exactly w near j exactly =
-    let n = joinRefusal w near j in
-    let chain = answer-by n j (eqb n 0) refl ∙ chain-by (isThin w) near (isJoinNear cornerLimit j) in
+pub refusal-exactly : {P : Type 0} (k : ℕ) (w : ℤ) (near : Bool) (j : Join) → (near ≡ true) ↔ P → Refusals (Thin w) P (JoinNear k j) (answerOf k w near j .refusal)
+unfolding answerOf strokeRefusal
+refusal-exactly k w near j exactly =
+    let chain = chain-by k j (isThin w) near in
     let thin = thin-iff w in
-    let corners = join-near-iff cornerLimit j in
+    let corners = join-near-iff k j in
+    let far = isJoinNear k j in
     record {
-      none = rw chain (good-later (isThin w) thin (λ e. omega arith) (good-later near exactly (λ e. omega arith) (bad-first (isJoinNear cornerLimit j) corners (λ e. omega arith))));
-      width = rw chain (good-first (isThin w) thin (never near (never (isJoinNear cornerLimit j) (λ e. omega arith) (λ e. omega arith)) (λ e. omega arith)));
-      points = rw chain (good-later (isThin w) thin (λ e. omega arith) (good-first near exactly (never (isJoinNear cornerLimit j) (λ e. omega arith) (λ e. omega arith))));
-      corners = rw chain (good-later (isThin w) thin (λ e. omega arith) (good-later near exactly (λ e. omega arith) (good-first (isJoinNear cornerLimit j) corners (λ e. omega arith))));
+      none = rw chain (good-later (isThin w) thin (λ e. omega arith) (good-later near exactly (λ e. omega arith) (bad-first far corners (λ e. omega arith))));
+      width = rw chain (good-first (isThin w) thin (never near (never far (λ e. omega arith) (λ e. omega arith)) (λ e. omega arith)));
+      points = rw chain (good-later (isThin w) thin (λ e. omega arith) (good-first near exactly (never far (λ e. omega arith) (λ e. omega arith))));
+      corners = rw chain (good-later (isThin w) thin (λ e. omega arith) (good-later near exactly (λ e. omega arith) (good-first far corners (λ e. omega arith))));
     }
 
-module _ (a b : Point) (w : ℤ) (o : Offset) where
-  pub start-refusal : Refusals (Thin w) (LineNear pointLimit (lineOf a b)) (JoinNear cornerLimit (startOf a b w o)) (startAnswer a b w o .refusal)
+module _ (limits : Limits) (a b : Point) (w : ℤ) (o : Offset) where
+  pub start-refusal : Refusals (Thin w) (LineNear (limits .point) (lineOf a b)) (JoinNear (limits .corner) (startOf a b w o)) (startAnswer limits a b w o .refusal)
   unfolding startAnswer
-  start-refusal = refusal-exactly w (isLineNear pointLimit (lineOf a b)) (startOf a b w o) (line-near-iff pointLimit (lineOf a b))
+  start-refusal = refusal-exactly (limits .corner) w _ (startOf a b w o) (line-near-iff (limits .point) (lineOf a b))
 
-  pub end-refusal : Refusals (Thin w) (LineNear pointLimit (lineOf a b)) (JoinNear cornerLimit (endOf a b w o)) (endAnswer a b w o .refusal)
+  pub end-refusal : Refusals (Thin w) (LineNear (limits .point) (lineOf a b)) (JoinNear (limits .corner) (endOf a b w o)) (endAnswer limits a b w o .refusal)
   unfolding endAnswer
-  end-refusal = refusal-exactly w (isLineNear pointLimit (lineOf a b)) (endOf a b w o) (line-near-iff pointLimit (lineOf a b))
+  end-refusal = refusal-exactly (limits .corner) w _ (endOf a b w o) (line-near-iff (limits .point) (lineOf a b))
 
-pub points-refusal : (a b c : Point) (w : ℤ) (o : Offset) → Refusals (Thin w) (Near pointLimit a × (Near pointLimit b × Near pointLimit c)) (JoinNear cornerLimit (joinOf a b c w o)) (pointsAnswer a b c w o .refusal)
+pub points-refusal : (limits : Limits) (a b c : Point) (w : ℤ) (o : Offset) → Refusals (Thin w) (LineNear (limits .point) (lineOf a b) × Near (limits .point) c) (JoinNear (limits .corner) (joinOf a b c w o)) (pointsAnswer limits a b c w o .refusal)
 unfolding pointsAnswer
-points-refusal a b c w o = refusal-exactly w (areNear a b c) (joinOf a b c w o) (near-exactly a b c)
+points-refusal limits a b c w o =
+    refusal-exactly (limits .corner) w _ (joinOf a b c w o) (and-iff (isLineNear (limits .point) (lineOf a b)) (isNear (limits .point) c) (line-near-iff (limits .point) (lineOf a b)) (near-iff (limits .point) c))
 
--- a route's first and last join are never refused with 5
-module _ (a b : Point) (w : ℤ) (o : Offset) (h : LineNear pointLimit (lineOf a b)) (t : Thin w) where
-  pub start-accepted : startAnswer a b w o .refusal ≡ 0
-  start-accepted = start-refusal a b w o .none .1 (t, (h, join-near-more (start-within o (h .start-near) (h .end-near) t) (lit≤ tt)))
+-- a route's first and last join are never refused with 5, where the corners' limit leaves room for a stroke
+module _ (limits : Limits) (fits : limits .point ≤ lineLimit) (room : limits .point + (4 * widthLimit + 3) ≤ limits .corner) (a b : Point) (w : ℤ) (o : Offset) (h : LineNear (limits .point) (lineOf a b)) (t : Thin w) where
+  pub start-accepted : startAnswer limits a b w o .refusal ≡ 0
+  start-accepted = start-refusal limits a b w o .none .1 (t, (h, start-within o fits room (h .start-near) (h .end-near) t))
 
-  pub end-accepted : endAnswer a b w o .refusal ≡ 0
-  end-accepted = end-refusal a b w o .none .1 (t, (h, join-near-more (end-within o (h .start-near) (h .end-near) t) (lit≤ tt)))
+  pub end-accepted : endAnswer limits a b w o .refusal ≡ 0
+  end-accepted = end-refusal limits a b w o .none .1 (t, (h, end-within o fits room (h .start-near) (h .end-near) t))
 
 -- with no refusal the join, else the refusal with 0 in every other value
-pub answer-chosen : (w : ℤ) (near : Bool) (j : Join) → Chosen (joinRefusal w near j ≡ 0) (answerOf w near j) (record { refusal = 0; kind = kindNumber (j .kind); ending = j .ending; starting = j .starting }) (record { refusal = joinRefusal w near j; kind = 0; ending = noCorners; starting = noCorners })
-unfolding answerOf joinValues
-answer-chosen w near j =
-    let n = joinRefusal w near j in
-    let c = chosen (eqb n 0) (joined.Made j) (joined.Refused n) (eqb-iff n 0) in
-    record { holds = λ e. ap joinValues (c .holds e); fails = λ e. ap joinValues (c .fails e) }
+abbrev pub refusedJoin : ℕ → JoinValues
+refusedJoin n = record { refusal = n; kind = 0; ending = noCorners; starting = noCorners }
+
+chosen-by : (k : ℕ) (j : Join) (n : ℕ) (t s : Bool) → eqb n 0 ≡ t → isJoinNear k j ≡ s → let v = joinValues (cond (eqb n 0) (madeOf k j) (joined.Refused n)) in
+    Chosen (v .refusal ≡ 0) v (joinValues (joined.Made j)) (refusedJoin (v .refusal))
+unfolding madeOf joinValues
+chosen-by k j n true true e f = rw (e, f) (record { holds = λ h. refl; fails = λ h. absurd (h refl) })
+chosen-by k j n true false e f = rw (e, f) (record { holds = λ h. absurd (omega arith); fails = λ h. refl })
+chosen-by k j n false s e f = rw e (record { holds = λ h. absurd (eqb-false n 0 e h); fails = λ h. refl })
+
+pub answer-chosen : (k : ℕ) (w : ℤ) (near : Bool) (j : Join) → Chosen (answerOf k w near j .refusal ≡ 0) (answerOf k w near j) (joinValues (joined.Made j)) (refusedJoin (answerOf k w near j .refusal))
+unfolding answerOf
+answer-chosen k w near j = chosen-by k j (strokeRefusal w near) (eqb (strokeRefusal w near) 0) (isJoinNear k j) refl refl
 
 -- ---- answers on a join handed in: inside the limit the answer, else refusal 5 with 0 in every other value
 
-pub filler-chosen : (j : Join) → Chosen (JoinNear cornerLimit j) (fillerAnswer j) (fillerValues (fillerOf j)) (record { refusal = 5; found = 0; line = noLine })
-unfolding fillerAnswer fillerValues
-filler-chosen j =
-    let c = chosen (isJoinNear cornerLimit j) (fillerOf j) (filler.Refused 5) (join-near-iff cornerLimit j) in
-    record { holds = λ h. ap fillerValues (c .holds h); fails = λ h. ap fillerValues (c .fails h) }
+module _ (k : ℕ) (j : Join) where
+  -- whatever values an answer has
+  handed-chosen : {A B : Type 0} (values : A → B) (a b : A) → Chosen (JoinNear k j) (values (cond (isJoinNear k j) a b)) (values a) (values b)
+  handed-chosen values a b =
+      let c = chosen (isJoinNear k j) a b (join-near-iff k j) in
+      record { holds = λ h. ap values (c .holds h); fails = λ h. ap values (c .fails h) }
 
-caps-chosen : (j : Join) (c : Caps) → Chosen (JoinNear cornerLimit j) (capsValues (cond (isJoinNear cornerLimit j) c (caps.Refused 5))) (capsValues c) (record { refusal = 5; count = 0; first = noLine; second = noLine })
-unfolding capsValues
-caps-chosen j c =
-    let x = chosen (isJoinNear cornerLimit j) c (caps.Refused 5) (join-near-iff cornerLimit j) in
-    record { holds = λ h. ap capsValues (x .holds h); fails = λ h. ap capsValues (x .fails h) }
+  pub filler-chosen : Chosen (JoinNear k j) (fillerAnswer k j) (fillerValues (fillerOf j)) (record { refusal = 5; found = 0; line = noLine })
+  unfolding fillerAnswer fillerValues
+  filler-chosen = handed-chosen fillerValues (fillerOf j) (filler.Refused 5)
 
-pub start-caps-chosen : (j : Join) → Chosen (JoinNear cornerLimit j) (startCapsAnswer j) (capsValues (startCapsOf j)) (record { refusal = 5; count = 0; first = noLine; second = noLine })
-unfolding startCapsAnswer
-start-caps-chosen j = caps-chosen j (startCapsOf j)
+  pub start-caps-chosen : Chosen (JoinNear k j) (startCapsAnswer k j) (capsValues (startCapsOf j)) (record { refusal = 5; count = 0; first = noLine; second = noLine })
+  unfolding startCapsAnswer capsValues
+  start-caps-chosen = handed-chosen capsValues (startCapsOf j) (caps.Refused 5)
 
-pub end-caps-chosen : (j : Join) → Chosen (JoinNear cornerLimit j) (endCapsAnswer j) (capsValues (endCapsOf j)) (record { refusal = 5; count = 0; first = noLine; second = noLine })
-unfolding endCapsAnswer
-end-caps-chosen j = caps-chosen j (endCapsOf j)
+  pub end-caps-chosen : Chosen (JoinNear k j) (endCapsAnswer k j) (capsValues (endCapsOf j)) (record { refusal = 5; count = 0; first = noLine; second = noLine })
+  unfolding endCapsAnswer capsValues
+  end-caps-chosen = handed-chosen capsValues (endCapsOf j) (caps.Refused 5)
 
-pub degenerate-chosen : (j : Join) → Chosen (JoinNear cornerLimit j) (degenerateAnswer j) (record { refusal = 0; holds = isDegenerate (j .kind) }) (record { refusal = 5; holds = false })
-unfolding degenerateAnswer
-degenerate-chosen j = chosen (isJoinNear cornerLimit j) _ _ (join-near-iff cornerLimit j)
+  pub degenerate-chosen : Chosen (JoinNear k j) (degenerateAnswer k j) (record { refusal = 0; degenerate = isDegenerate (j .kind) }) (record { refusal = 5; degenerate = false })
+  unfolding degenerateAnswer
+  degenerate-chosen = chosen (isJoinNear k j) _ _ (join-near-iff k j)
 
 -- ---- each answer has values of its own: it can be read back from them
 

@@ -2,7 +2,7 @@
 use mathlib.Core.Path.{_≡_, refl, sym, ap, subst, _∙_}
 use mathlib.Core.Logic.{_↔_, inl, inr}
 use mathlib.Core.Bool.{Bool, true, false, cond}
-use Prim.Native.Nat.{ℕ, _*_}
+use Prim.Native.Nat.{ℕ, _+_, _*_, _≤_}
 use native.Mathlib.Omega.{arith}
 use borrow.Author.Tests.{ltb-true}
 use lib.Dec.{T}
@@ -15,7 +15,7 @@ use Rattle.shapes.specs.declared.Point.{Point}
 use Rattle.shapes.specs.declared.Line.{Line}
 use Rattle.shapes.specs.declared.Side.{Side}
 use Rattle.shapes.specs.declared.Offset.{Offset}
-use Rattle.shapes.specs.Limits.{pointLimit, crossingLimit}
+use Rattle.shapes.specs.Limits.{widthLimit, lineLimit}
 use Rattle.shapes.specs.Shape.{Near, pointOf, lineOf, minus, dotProduct, squaredLength}
 use Rattle.intersection_params.specs.declared.Intersection.{Intersection}
 use Rattle.intersection_params.specs.declared.Intersection.the-variants.{At, Colinear, Refused}
@@ -23,11 +23,12 @@ use Rattle.intersection_params.specs.Crossing.{solutionOf, drawnOf, crossingOf,
 use Rattle.intersection_params.specs.Words.{bend}
 use Rattle.intersection_params.proofs.Laws.{colinear-exactly}
 use Rattle.extents.specs.declared.Edges.{Edges}
-use Rattle.extents.specs.Edges.{extentsOf}
+use Rattle.extents.specs.Edges.{EdgesNear, extentsOf}
 use Rattle.line_join.specs.declared.Kind.{Kind}
 use Rattle.line_join.specs.declared.Kind.the-variants as kind
 use Rattle.line_join.specs.declared.Corners.{Corners}
-use Rattle.line_join.specs.Miter.{Thin, miterLimit, reaches}
+use Rattle.shapes.specs.Strokes.{Thin}
+use Rattle.line_join.specs.Miter.{miterLimit, reaches}
 use Rattle.line_join.specs.Join.{mended, meet, cornersOf, endsOf, startsOf, outer, overlapping, alike, plain, cut, bentAt, bentLeft, bentOf, startOf, endOf, joinOf}
 use Rattle.line_join.specs.Caps.{CornersNear, JoinNear}
 use Rattle.line_join.specs.Words.{Bend, Parallel, Overlap, Short, Long, HasKind}
@@ -66,7 +67,7 @@ limit-at-3 = (refl, refl)
 -- ---- kinds
 
 -- a crossing is a point or none
-abbrev NotRefused : Intersection → Type 0
+abbrev pub NotRefused : Intersection → Type 0
 NotRefused (At p s) = T true
 NotRefused Colinear = T true
 NotRefused (Refused n) = ⊥
@@ -75,7 +76,7 @@ drawn-or-none : (t : Bool) (p : Point) (s : Side) → NotRefused (cond t Colinea
 drawn-or-none true p s = tt
 drawn-or-none false p s = tt
 
-not-refused : (a b : Line) → NotRefused (crossingOf a b)
+pub not-refused : (a b : Line) → NotRefused (crossingOf a b)
 unfolding crossingOf drawnOf
 not-refused a b = drawn-or-none (eqZ (solutionOf a b .determinant) (pos 0)) _ _
 
@@ -183,19 +184,20 @@ module _ (a b c : Point) (w : ℤ) (o : Offset) where
   pub miter-exactly : (joinOf a b c w o .kind ≡ kind.Miter) ↔ Short First Second b w
   miter-exactly = join-kind-exactly kind.Miter
 
--- ---- corners of a route's first and last join
+-- ---- corners of a route's first and last join, of points within k
 
-module _ {a b : Point} {w : ℤ} (o : Offset) (p : Near pointLimit a) (q : Near pointLimit b) (h : Thin w) where
-  pub start-within : JoinNear crossingLimit (startOf a b w o)
+module _ {j k : ℕ} {a b : Point} {w : ℤ} (o : Offset) (fits : k ≤ lineLimit) (le : k + (4 * widthLimit + 3) ≤ j) (p : Near k a) (q : Near k b) (h : Thin w) where
+  abbrev edges : EdgesNear j (extentsOf (lineOf a b) w o)
+  edges = edges-within o fits le p q h
+
+  pub start-within : JoinNear j (startOf a b w o)
   unfolding startOf
   start-within =
-      let e = edges-within o p q h in
-      let corners : CornersNear crossingLimit (startsOf (extentsOf (lineOf a b) w o)) = record { left-near = e .left-near .start-near; right-near = e .right-near .start-near } in
+      let corners : CornersNear j (startsOf (extentsOf (lineOf a b) w o)) = record { left-near = edges .left-near .start-near; right-near = edges .right-near .start-near } in
       record { ending-near = corners; starting-near = corners }
 
-  pub end-within : JoinNear crossingLimit (endOf a b w o)
+  pub end-within : JoinNear j (endOf a b w o)
   unfolding endOf
   end-within =
-      let e = edges-within o p q h in
-      let corners : CornersNear crossingLimit (endsOf (extentsOf (lineOf a b) w o)) = record { left-near = e .left-near .end-near; right-near = e .right-near .end-near } in
+      let corners : CornersNear j (endsOf (extentsOf (lineOf a b) w o)) = record { left-near = edges .left-near .end-near; right-near = edges .right-near .end-near } in
       record { ending-near = corners; starting-near = corners }

@@ -1,4 +1,5 @@
 pub mod Answers
 pub mod Laws
+pub mod Meeting
 pub mod Others
 pub mod Room

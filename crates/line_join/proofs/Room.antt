@@ -2,34 +2,34 @@
 use mathlib.Core.Path.{_≡_}
 use mathlib.Core.Logic.{_↔_}
 use mathlib.Core.Bool.{Bool, true, false, cond}
-use Prim.Native.Nat.{ℕ, _≤_}
+use Prim.Native.Nat.{ℕ, _+_, _*_, _≤_}
 use lib.Dec.{T, lit≤}
 use lib.IntN.{ℤ, pos}
-use lib.Signed.{leZ}
 use mir.Syntax.{w64}
 use mir.Val.{toZ, ofZ}
 use Rattle.whole.specs.Number.{Within, eqZ}
 use Rattle.whole.specs.Rounded.{rounded}
 use Rattle.whole.proofs.Bounds.{within-more}
-use Rattle.whole.proofs.Linear.{linear, abs-le}
-use Rattle.whole.proofs.Machine.{Hold, hold}
 use Rattle.whole.proofs.Squares.{rounded-within}
-use Rattle.whole.proofs.Tests.{and-iff, le-iff}
+use Rattle.whole.proofs.Tests.{and-iff}
 use Rattle.shapes.specs.declared.Point.{Point}
 use Rattle.shapes.specs.declared.Line.{Line}
 use Rattle.shapes.specs.declared.Side.{Side}
 use Rattle.shapes.specs.declared.Side.the-variants.{Left, Right}
 use Rattle.shapes.specs.declared.Offset.{Offset}
-use Rattle.shapes.specs.Limits.{pointLimit, crossingLimit, widthLimit, lineLimit}
+use Rattle.shapes.specs.Limits.{cornerLimit, widthLimit, lineLimit, strokeLimit}
+use Rattle.parallels.specs.Parallels.{thickLimit}
 use Rattle.shapes.specs.Shape.{Near, LineNear, pointOf, lineOf, isNear}
-use Rattle.shapes.proofs.Laws.{near-more, line-near-more, near-iff}
+use Rattle.shapes.proofs.Laws.{near-more, line-near-more, line-of-near, near-iff}
+use Rattle.shapes.proofs.Widths.{thin-held, thin-within}
 use Rattle.intersection_params.specs.declared.Intersection.{Intersection}
 use Rattle.intersection_params.specs.declared.Intersection.the-variants.{At, Colinear, Refused}
 use Rattle.intersection_params.specs.Crossing.{solutionOf, sideOf, drawnOf, crossingOf, nearlyColinear}
 use Rattle.intersection_params.proofs.Room.{solution-roomy}
 use Rattle.extents.specs.Edges.{EdgesNear, extentsOf}
-use Rattle.extents.proofs.Laws.{edges-within as line-edges-within}
-use Rattle.line_join.specs.Miter.{Thin, isThin, cornerRoom}
+use Rattle.extents.proofs.Laws.{edges-near, edges-more}
+use Rattle.shapes.specs.Strokes.{Thin}
+use Rattle.line_join.specs.Miter.{cornerRoom}
 use Rattle.line_join.specs.declared.Kind.{Kind}
 use Rattle.line_join.specs.declared.Kind.the-variants as kind
 use Rattle.line_join.specs.declared.Kind.the-variants.{Miter, Bevel, Degenerate, Start, End}
@@ -41,40 +41,18 @@ use Rattle.line_join.specs.declared.Filler.the-variants.{Filled, Nothing
 use Rattle.line_join.specs.Join.{mended, meet, outer}
 use Rattle.line_join.specs.Caps.{CornersNear, JoinNear, isCornersNear, isJoinNear, between, fillerBy, fillerOf}
 
--- ---- widths
-
-pub thin-iff : (w : ℤ) → (isThin w ≡ true) ↔ Thin w
-unfolding isThin
-thin-iff w =
-    let both = and-iff (leZ (pos 0) w) (leZ w (pos widthLimit)) (le-iff (pos 0) w) (le-iff w (pos widthLimit)) in
-    (λ e. record { low = both .0 e .0; high = both .0 e .1 }, λ h. both .1 (h .low, h .high))
-
-pub thin-within : {w : ℤ} → Thin w → Within w widthLimit
-thin-within {w} h = record { bound = abs-le w (omega (linear, h .low, h .high)) (omega (linear, h .low, h .high)) }
-
--- a width in its bits
-pub thin-held : {w : ℤ} → Thin w → Hold (ofZ w64 w) w widthLimit
-thin-held h = hold (thin-within h) tt
-
-pub thin-back : {w : ℤ} → Thin w → Thin (toZ w64 (ofZ w64 w))
-thin-back h = rw (thin-held h .is) h
-
 -- ---- edges: the one place that cites how far they lie from a line
 
-pub line-of-near : {k : ℕ} {a b : Point} → Near k a → Near k b → LineNear k (lineOf a b)
-line-of-near p q = record { start-near = p; end-near = q }
-
 -- what `extents` asks
-pub extents-room : {a b : Point} {w : ℤ} → Near pointLimit a → Near pointLimit b → Thin w → LineNear lineLimit (lineOf a b) × Within (toZ w64 (ofZ w64 w)) widthLimit
-extents-room p q h = (line-near-more (line-of-near p q) (lit≤ tt), rw (thin-held h .is) (thin-within h))
+pub extents-room : {a b : Point} {w : ℤ} → Near strokeLimit a → Near strokeLimit b → Thin w → LineNear lineLimit (lineOf a b) × Within (toZ w64 (ofZ w64 w)) thickLimit
+extents-room p q h = (line-near-more (line-of-near p q) (lit≤ tt), rw (thin-held h .is) (within-more (thin-within h) (lit≤ tt)))
 
-pub edges-within : {a b : Point} {w : ℤ} (o : Offset) → Near pointLimit a → Near pointLimit b → Thin w → EdgesNear crossingLimit (extentsOf (lineOf a b) w o)
-edges-within {a} {b} {w} o p q h = line-edges-within (lineOf a b) w o (line-of-near p q) (thin-within h .bound)
+-- of a line between points within k
+pub edges-within : {j k : ℕ} {a b : Point} {w : ℤ} (o : Offset) → k ≤ lineLimit → k + (4 * widthLimit + 3) ≤ j → Near k a → Near k b → Thin w → EdgesNear j (extentsOf (lineOf a b) w o)
+edges-within {k = k} {a} {b} {w} o fits le p q h = edges-more (edges-near k widthLimit (lineOf a b) w o (line-of-near p q) fits (thin-within h .bound)) le
 
-pub edges-room : {a b : Point} {w : ℤ} (o : Offset) → Near pointLimit a → Near pointLimit b → Thin w → EdgesNear lineLimit (extentsOf (lineOf a b) w o)
-edges-room o p q h =
-    let e = edges-within o p q h in
-    record { left-near = line-near-more (e .left-near) (lit≤ tt); right-near = line-near-more (e .right-near) (lit≤ tt) }
+pub edges-room : {a b : Point} {w : ℤ} (o : Offset) → Near strokeLimit a → Near strokeLimit b → Thin w → EdgesNear lineLimit (extentsOf (lineOf a b) w o)
+edges-room o p q h = edges-within o (lit≤ tt) (lit≤ tt) p q h
 
 -- ---- crossings
 
@@ -134,6 +112,10 @@ unfolding isJoinNear
 join-near-iff k j =
     let both = and-iff (isCornersNear k (j .ending)) (isCornersNear k (j .starting)) (corners-near-iff k (j .ending)) (corners-near-iff k (j .starting)) in
     (λ e. record { ending-near = both .0 e .0; starting-near = both .0 e .1 }, λ h. both .1 (h .ending-near, h .starting-near))
+
+-- what passes the entries' test is small enough
+pub join-room : (j : Join) → isJoinNear cornerLimit j ≡ true → JoinNear lineLimit j
+join-room j e = join-near-more (join-near-iff cornerLimit j .0 e) (lit≤ tt)
 
 -- the filler line, if there is one, lies as near as the corners
 abbrev pub FillerNear : ℕ → Filler → Type 0

@@ -1,12 +1,14 @@
 -- What 01's order says of a join's kind and of its refusal, in words: when it is which.
 use mathlib.Core.Path.{_≡_}
-use mathlib.Core.Logic.{_↔_, _⊎_}
+use mathlib.Core.Logic.{_↔_, _⊎_, _≢_}
 use mathlib.Core.Bool.{true, false}
 use Prim.Native.Nat.{ℕ}
 use lib.IntN.{ℤ, pos}
 use lib.Signed.{_≤ℤ_, _<ℤ_}
 use Rattle.shapes.specs.declared.Point.{Point}
+use Rattle.shapes.specs.declared.Line.{Line}
 use Rattle.shapes.specs.declared.Side.{Side}
+use Rattle.shapes.specs.declared.Side.the-variants.{Left, Right}
 use Rattle.shapes.specs.Shape.{minus, squaredLength}
 use Rattle.intersection_params.specs.declared.Intersection.the-variants.{At}
 use Rattle.intersection_params.specs.Words.{bend}
@@ -64,3 +66,24 @@ pub record Refusals (W P C : Type 0) (n : ℕ) : Type 0 where
   pub width : (n ≡ 3) ↔ (W → ⊥)
   pub points : (n ≡ 4) ↔ (W × (P → ⊥))
   pub corners : (n ≡ 5) ↔ (W × (P × (C → ⊥)))
+
+-- ---- what two edges meet at
+
+-- an end in the place of a crossing that rounding spoils: the edges are not parallel, p is the first edge's end, and the side is Left
+-- exactly when the directions' determinant is negative
+pub record Ended (second first : Line) (p : Point) (s : Side) : Type 0 where
+  pub crosses : bend second first ≢ pos 0
+  pub at-end : p ≡ first .end
+  pub left : (s ≡ Left) ↔ (bend second first <ℤ pos 0)
+
+-- ---- when lines overlap
+
+-- the edge on the inner side
+abbrev pub innerEdge : Side → Edges → Line
+innerEdge Left e = e .right
+innerEdge Right e = e .left
+
+-- what a determinant says of a point on the outer side of a line, or on the line
+abbrev pub Outward : Side → ℤ → Type 0
+Outward Left d = d ≤ℤ pos 0
+Outward Right d = pos 0 ≤ℤ d

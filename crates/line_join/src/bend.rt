@@ -2,10 +2,10 @@
 ghost use mathlib.Core.Path.{_≡_};
 ghost use Rattle.shapes.specs.Limits.{lineLimit};
 ghost use Rattle.shapes.specs.Shape.{Near, LineNear};
-ghost use Rattle.line_join.specs.Miter.{Thin, cornerRoom};
+ghost use Rattle.shapes.specs.Strokes.{Thin};
+ghost use Rattle.line_join.specs.Miter.{cornerRoom};
 ghost use Rattle.extents.specs.Edges.{EdgesNear};
-ghost use Rattle.line_join.specs.Join.{meet, overlapping, plain, alike, cut, cutOff, outer};
-ghost use Rattle.line_join.specs.Join.{endsOf, startsOf, bentAt, bentOf};
+ghost use Rattle.line_join.specs.Join.{meet, overlapping, plain, alike, cut, cutOff, outer, endsOf, startsOf, bentAt, bentOf};
 ghost use Rattle.line_join.specs.Caps.{CornersNear};
 use crate::Corners;
 use crate::Join;

@@ -1,8 +1,8 @@
 //! Joins, for the crates above: no test of the input, but bounds that the caller shows.
 ghost use mathlib.Core.Path.{_≡_};
-ghost use Rattle.shapes.specs.Limits.{pointLimit, cornerLimit};
+ghost use Rattle.shapes.specs.Limits.{strokeLimit, lineLimit};
 ghost use Rattle.shapes.specs.Shape.{Near};
-ghost use Rattle.line_join.specs.Miter.{Thin};
+ghost use Rattle.shapes.specs.Strokes.{Thin};
 ghost use Rattle.line_join.specs.Join.{startOf, endOf, joinOf};
 ghost use Rattle.line_join.specs.Caps.{JoinNear, isCornersNear, isJoinNear, between, fillerOf, capOf, startCapsOf, endCapsOf, isDegenerate};
 use crate::Caps;
@@ -22,12 +22,12 @@ use shapes::Point;
 use shapes::Side;
 use shapes::inner::is_near;
 use shapes::inner::midpoint;
-use shapes::limits::CORNER;
+use whole::inner::both;
 
 /// The join at which a route from `a` to `b` begins.
 pub fn start(a: Point, b: Point, width: i64, offset: Offset) -> Join
-    requires { ⌜ Near pointLimit a ⌝ }
-    requires { ⌜ Near pointLimit b ⌝ }
+    requires { ⌜ Near strokeLimit a ⌝ }
+    requires { ⌜ Near strokeLimit b ⌝ }
     requires { ⌜ Thin width ⌝ }
     ensures { λ r. ⌜ r ≡ startOf a b width offset ⌝ }
 {
@@ -37,8 +37,8 @@ pub fn start(a: Point, b: Point, width: i64, offset: Offset) -> Join
 
 /// The join at which a route that comes from `a` ends, at `b`.
 pub fn end(a: Point, b: Point, width: i64, offset: Offset) -> Join
-    requires { ⌜ Near pointLimit a ⌝ }
-    requires { ⌜ Near pointLimit b ⌝ }
+    requires { ⌜ Near strokeLimit a ⌝ }
+    requires { ⌜ Near strokeLimit b ⌝ }
     requires { ⌜ Thin width ⌝ }
     ensures { λ r. ⌜ r ≡ endOf a b width offset ⌝ }
 {
@@ -48,9 +48,9 @@ pub fn end(a: Point, b: Point, width: i64, offset: Offset) -> Join
 
 /// The join at `b` of the lines from `a` to `b` and from `b` to `c`.
 pub fn from_points(a: Point, b: Point, c: Point, width: i64, offset: Offset) -> Join
-    requires { ⌜ Near pointLimit a ⌝ }
-    requires { ⌜ Near pointLimit b ⌝ }
-    requires { ⌜ Near pointLimit c ⌝ }
+    requires { ⌜ Near strokeLimit a ⌝ }
+    requires { ⌜ Near strokeLimit b ⌝ }
+    requires { ⌜ Near strokeLimit c ⌝ }
     requires { ⌜ Thin width ⌝ }
     ensures { λ r. ⌜ r ≡ joinOf a b c width offset ⌝ }
 {
@@ -59,26 +59,21 @@ pub fn from_points(a: Point, b: Point, c: Point, width: i64, offset: Offset) -> 
     bent(first, second, b, width)
 }
 
-/// Whether all four corners of a join are within 4,095: if not, it is refused with 5.
-pub fn is_join_near(join: Join) -> bool
-    ensures { λ r. ⌜ r ≡ isJoinNear cornerLimit join ⌝ }
+/// Whether all four corners of a join are within `limit`: if not, it is refused with 5.
+pub fn is_join_near(join: Join, limit: u32) -> bool
+    ensures { λ r. ⌜ r ≡ isJoinNear limit join ⌝ }
 {
-    if are_corners_near(join.ending) {
-        are_corners_near(join.starting)
-    } else {
-        false
-    }
+    both(
+        are_corners_near(join.ending, limit),
+        are_corners_near(join.starting, limit),
+    )
 }
 
-/// Whether two corners are within 4,095.
-pub fn are_corners_near(corners: Corners) -> bool
-    ensures { λ r. ⌜ r ≡ isCornersNear cornerLimit corners ⌝ }
+/// Whether two corners are within `limit`.
+fn are_corners_near(corners: Corners, limit: u32) -> bool
+    ensures { λ r. ⌜ r ≡ isCornersNear limit corners ⌝ }
 {
-    if is_near(corners.left, CORNER) {
-        is_near(corners.right, CORNER)
-    } else {
-        false
-    }
+    both(is_near(corners.left, limit), is_near(corners.right, limit))
 }
 
 /// The filler line of a bevel or of a degenerate join; never a refusal.
@@ -105,7 +100,7 @@ pub fn outer_line(side: Side, ending: Corners, starting: Corners) -> Line
 
 /// The lines that close the thick line that begins at a join; never a refusal.
 pub fn start_caps(join: Join) -> Caps
-    requires { ⌜ JoinNear cornerLimit join ⌝ }
+    requires { ⌜ JoinNear lineLimit join ⌝ }
     ensures { λ r. ⌜ r ≡ startCapsOf join ⌝ }
 {
     cap(join, join.starting)
@@ -113,7 +108,7 @@ pub fn start_caps(join: Join) -> Caps
 
 /// The lines that close the thick line that ends at a join; never a refusal.
 pub fn end_caps(join: Join) -> Caps
-    requires { ⌜ JoinNear cornerLimit join ⌝ }
+    requires { ⌜ JoinNear lineLimit join ⌝ }
     ensures { λ r. ⌜ r ≡ endCapsOf join ⌝ }
 {
     cap(join, join.ending)
@@ -121,7 +116,7 @@ pub fn end_caps(join: Join) -> Caps
 
 /// The lines from the left to the right of two corners: by way of the filler line's midpoint, if the join has such a line.
 pub fn cap(join: Join, corners: Corners) -> Caps
-    requires { ⌜ JoinNear cornerLimit join ⌝ }
+    requires { ⌜ JoinNear lineLimit join ⌝ }
     ensures { λ r. ⌜ r ≡ capOf join corners ⌝ }
 {
     let left = corners.left;

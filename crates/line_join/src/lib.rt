@@ -1,26 +1,25 @@
 //! How two thick lines are joined: `line_join.rs`.
 ghost use mathlib.Core.Path.{_≡_};
-ghost use Rattle.line_join.specs.Answers.{inputRefusal, areNear, joinValues, fillerValues, capsValues};
-ghost use Rattle.line_join.specs.Answers.{startAnswer, endAnswer, pointsAnswer, fillerAnswer, startCapsAnswer, endCapsAnswer};
-ghost use Rattle.line_join.specs.Answers.{degenerateAnswer, checkedOf};
+ghost use Rattle.shapes.specs.Limits.{cornerLimit, panel};
+ghost use Rattle.line_join.specs.Answers.{joinValues, fillerValues, capsValues, madeOf, startAnswer, endAnswer, pointsAnswer};
+ghost use Rattle.line_join.specs.Answers.{fillerAnswer, startCapsAnswer, endCapsAnswer, degenerateAnswer};
 
 pub mod bend; // bend.rt: the join of two thick lines
 pub mod inner; // inner.rt: the same without the tests
 pub mod miter; // miter.rt: how long a miter may be
 
 use inner::is_join_near;
-use linear_equation::Tested;
-use miter::is_thin;
 use shapes::Line;
 use shapes::Offset;
 use shapes::Point;
 use shapes::Side;
 use shapes::inner::is_line_near;
 use shapes::inner::is_near;
+use shapes::limits;
 use shapes::limits::POINT;
-use shapes::refusals::COORDINATE;
 use shapes::refusals::CORNER;
-use shapes::refusals::WIDTH;
+use shapes::strokes::stroke_refusal;
+use whole::inner::both;
 
 /// How a join looks.
 pub enum Kind {
@@ -80,13 +79,19 @@ pub enum Caps {
     Refused(u64),
 }
 
+/// Whether the lines at a join overlap, or the refusal with false.
+pub struct Judged {
+    pub refusal: u64,
+    pub degenerate: bool,
+}
+
 /// The join at which a route from `a` to `b` begins. Refused with 3 for a width outside 0 to 64, with 4 for a coordinate
 /// beyond 511; its corners are within 1,023, so that it is never refused with 5.
 pub fn start(a: Point, b: Point, width: i64, offset: Offset) -> Joined
-    ensures { λ r. ⌜ joinValues r ≡ startAnswer a b width offset ⌝ }
+    ensures { λ r. ⌜ joinValues r ≡ startAnswer panel a b width offset ⌝ }
 {
     let line = Line { start: a, end: b };
-    let refusal = input_refusal(width, is_line_near(line, POINT));
+    let refusal = stroke_refusal(width, is_line_near(line, POINT));
     if refusal == 0 {
         return checked(inner::start(a, b, width, offset));
     }
@@ -95,10 +100,10 @@ pub fn start(a: Point, b: Point, width: i64, offset: Offset) -> Joined
 
 /// The join at which a route that comes from `a` ends, at `b`. Refused as for `start`.
 pub fn end(a: Point, b: Point, width: i64, offset: Offset) -> Joined
-    ensures { λ r. ⌜ joinValues r ≡ endAnswer a b width offset ⌝ }
+    ensures { λ r. ⌜ joinValues r ≡ endAnswer panel a b width offset ⌝ }
 {
     let line = Line { start: a, end: b };
-    let refusal = input_refusal(width, is_line_near(line, POINT));
+    let refusal = stroke_refusal(width, is_line_near(line, POINT));
     if refusal == 0 {
         return checked(inner::end(a, b, width, offset));
     }
@@ -108,9 +113,11 @@ pub fn end(a: Point, b: Point, width: i64, offset: Offset) -> Joined
 /// The join at `b` of the lines from `a` to `b` and from `b` to `c`. Refused with 3 and 4 as `start`, and with 5 for a
 /// corner beyond 4,095.
 pub fn from_points(a: Point, b: Point, c: Point, width: i64, offset: Offset) -> Joined
-    ensures { λ r. ⌜ joinValues r ≡ pointsAnswer a b c width offset ⌝ }
+    ensures { λ r. ⌜ joinValues r ≡ pointsAnswer panel a b c width offset ⌝ }
 {
-    let refusal = input_refusal(width, are_near(a, b, c));
+    let line = Line { start: a, end: b };
+    let near = both(is_line_near(line, POINT), is_near(c, POINT));
+    let refusal = stroke_refusal(width, near);
     if refusal == 0 {
         return checked(inner::from_points(a, b, c, width, offset));
     }
@@ -119,9 +126,9 @@ pub fn from_points(a: Point, b: Point, c: Point, width: i64, offset: Offset) -> 
 
 /// The line that closes the gap of a bevel or of a degenerate join. A corner beyond 4,095 is refused with 5.
 pub fn filler_line(join: Join) -> Filler
-    ensures { λ r. ⌜ fillerValues r ≡ fillerAnswer join ⌝ }
+    ensures { λ r. ⌜ fillerValues r ≡ fillerAnswer cornerLimit join ⌝ }
 {
-    if is_join_near(join) {
+    if is_join_near(join, limits::CORNER) {
         return inner::filler(join);
     }
     Filler::Refused(CORNER)
@@ -130,9 +137,9 @@ pub fn filler_line(join: Join) -> Filler
 /// The lines that close the thick line that begins at a join: two where the join has a filler line, else one. A corner
 /// beyond 4,095 is refused with 5.
 pub fn start_cap_lines(join: Join) -> Caps
-    ensures { λ r. ⌜ capsValues r ≡ startCapsAnswer join ⌝ }
+    ensures { λ r. ⌜ capsValues r ≡ startCapsAnswer cornerLimit join ⌝ }
 {
-    if is_join_near(join) {
+    if is_join_near(join, limits::CORNER) {
         return inner::start_caps(join);
     }
     Caps::Refused(CORNER)
@@ -141,60 +148,35 @@ pub fn start_cap_lines(join: Join) -> Caps
 /// The lines that close the thick line that ends at a join: two where the join has a filler line, else one. A corner
 /// beyond 4,095 is refused with 5.
 pub fn end_cap_lines(join: Join) -> Caps
-    ensures { λ r. ⌜ capsValues r ≡ endCapsAnswer join ⌝ }
+    ensures { λ r. ⌜ capsValues r ≡ endCapsAnswer cornerLimit join ⌝ }
 {
-    if is_join_near(join) {
+    if is_join_near(join, limits::CORNER) {
         return inner::end_caps(join);
     }
     Caps::Refused(CORNER)
 }
 
 /// Whether the lines at a join overlap. A corner beyond 4,095 is refused with 5.
-pub fn is_degenerate(join: Join) -> Tested
-    ensures { λ r. ⌜ r ≡ degenerateAnswer join ⌝ }
+pub fn is_degenerate(join: Join) -> Judged
+    ensures { λ r. ⌜ r ≡ degenerateAnswer cornerLimit join ⌝ }
 {
-    if is_join_near(join) {
-        return Tested {
+    if is_join_near(join, limits::CORNER) {
+        return Judged {
             refusal: 0,
-            holds: inner::is_degenerate(join),
+            degenerate: inner::is_degenerate(join),
         };
     }
-    Tested {
+    Judged {
         refusal: CORNER,
-        holds: false,
+        degenerate: false,
     }
 }
 
-/// The refusal of a constructor's input, or 0: `near` says whether its points are within 511.
-fn input_refusal(width: i64, near: bool) -> u64
-    ensures { λ r. ⌜ r ≡ inputRefusal width near ⌝ }
-{
-    if is_thin(width) {
-        if near {
-            return 0;
-        }
-        return COORDINATE;
-    }
-    WIDTH
-}
-
-/// Whether three points are within 511.
-fn are_near(a: Point, b: Point, c: Point) -> bool
-    ensures { λ r. ⌜ r ≡ areNear a b c ⌝ }
-{
-    let line = Line { start: a, end: b };
-    if is_line_near(line, POINT) {
-        is_near(c, POINT)
-    } else {
-        false
-    }
-}
-
-/// A join, unless a corner is beyond 4,095.
+/// A join whose input was not refused, unless a corner is beyond 4,095.
 fn checked(join: Join) -> Joined
-    ensures { λ r. ⌜ r ≡ checkedOf join ⌝ }
+    ensures { λ r. ⌜ r ≡ madeOf cornerLimit join ⌝ }
 {
-    if is_join_near(join) {
+    if is_join_near(join, limits::CORNER) {
         return Joined::Made(join);
     }
     Joined::Refused(CORNER)

@@ -2,9 +2,9 @@
 ghost use mathlib.Core.Path.{_≡_};
 ghost use Rattle.shapes.specs.Limits.{lineLimit};
 ghost use Rattle.shapes.specs.Shape.{Near};
-ghost use Rattle.line_join.specs.Miter.{Thin, isThin, miterLimit, cornerRoom, reaches};
+ghost use Rattle.shapes.specs.Strokes.{Thin};
+ghost use Rattle.line_join.specs.Miter.{miterLimit, cornerRoom, reaches};
 use shapes::Point;
-use shapes::limits::WIDTH;
 use whole::inner::magnitude;
 
 /// The square of twice the width, for each width from 0 to 64.
@@ -75,16 +75,6 @@ const LIMITS: [u32; 65] = [
     15876,
     16384,
 ];
-
-/// Whether a width is from 0 to 64.
-pub fn is_thin(width: i64) -> bool
-    ensures { λ r. ⌜ r ≡ isThin width ⌝ }
-{
-    if width < 0 {
-        return false;
-    }
-    width <= WIDTH
-}
 
 /// The greatest squared length of a miter for a width.
 pub fn limit(width: i64) -> i64

@@ -19,7 +19,7 @@ use Rattle.shapes.specs.Limits.{crossingLimit, lineLimit}
 use Rattle.shapes.specs.Shape.{pointOf, Near, LineNear, isNear, isLineNear, minus, quarterTurn, determinant, dotProduct, delta}
 use Rattle.shapes.proofs.Laws.{near-more, line-near-more, near-turn, near-delta, within-dot, true-near, true-line-near, near-iff, line-near-iff}
 use Rattle.linear_equation.specs.declared.LinearEquation.{LinearEquation}
-use Rattle.linear_equation.specs.Equation.{Tame, equationOf, distanceOf, isOnSide, areNear, equationAnswer, distanceAnswer, sideAnswer}
+use Rattle.linear_equation.specs.Equation.{Tame, equationOf, distanceOf, isOnSide, areInside, equationAnswer, distanceAnswer, sideAnswer}
 
 -- ---- bounds
 
@@ -33,12 +33,12 @@ tame h =
 pub line-room : (l : Line) → isLineNear crossingLimit l ≡ true → LineNear lineLimit l
 line-room l e = line-near-more (true-line-near crossingLimit l e) (lit≤ tt)
 
-pub near-line : (l : Line) (p : Point) → areNear crossingLimit l p ≡ true → LineNear lineLimit l
-unfolding areNear
+pub near-line : (l : Line) (p : Point) → areInside crossingLimit l p ≡ true → LineNear lineLimit l
+unfolding areInside
 near-line l p e = line-room l (and-left (isLineNear crossingLimit l) (isNear crossingLimit p) e)
 
-pub near-point : (l : Line) (p : Point) → areNear crossingLimit l p ≡ true → Near lineLimit p
-unfolding areNear
+pub near-point : (l : Line) (p : Point) → areInside crossingLimit l p ≡ true → Near lineLimit p
+unfolding areInside
 near-point l p e = near-more (true-near crossingLimit p (and-right (isLineNear crossingLimit l) (isNear crossingLimit p) e)) (lit≤ tt)
 
 -- ---- what the distance says
@@ -82,20 +82,20 @@ equation-chosen k l = chosen (isLineNear k l) _ _ (line-near-iff k l)
 pub equation-refused : (k : ℕ) (l : Line) → (equationAnswer k l .refusal ≡ 4) ↔ (LineNear k l → ⊥)
 equation-refused k l = chosen-exactly (λ v. v .refusal) refl refl (lit< tt) (equation-chosen k l)
 
-near-iff-both : (k : ℕ) (l : Line) (p : Point) → (areNear k l p ≡ true) ↔ (LineNear k l × Near k p)
-unfolding areNear
+near-iff-both : (k : ℕ) (l : Line) (p : Point) → (areInside k l p ≡ true) ↔ (LineNear k l × Near k p)
+unfolding areInside
 near-iff-both k l p = and-iff (isLineNear k l) (isNear k p) (line-near-iff k l) (near-iff k p)
 
 pub distance-chosen : (k : ℕ) (l : Line) (p : Point) → Chosen (LineNear k l × Near k p) (distanceAnswer k l p) (record { refusal = 0; distance = distanceOf (equationOf l) p }) (record { refusal = 4; distance = pos 0 })
 unfolding distanceAnswer
-distance-chosen k l p = chosen (areNear k l p) _ _ (near-iff-both k l p)
+distance-chosen k l p = chosen (areInside k l p) _ _ (near-iff-both k l p)
 
 pub distance-refused : (k : ℕ) (l : Line) (p : Point) → (distanceAnswer k l p .refusal ≡ 4) ↔ (LineNear k l × Near k p → ⊥)
 distance-refused k l p = chosen-exactly (λ v. v .refusal) refl refl (lit< tt) (distance-chosen k l p)
 
 pub side-chosen : (k : ℕ) (l : Line) (p : Point) (s : Side) → Chosen (LineNear k l × Near k p) (sideAnswer k l p s) (record { refusal = 0; holds = isOnSide (equationOf l) p s }) (record { refusal = 4; holds = false })
 unfolding sideAnswer
-side-chosen k l p s = chosen (areNear k l p) _ _ (near-iff-both k l p)
+side-chosen k l p s = chosen (areInside k l p) _ _ (near-iff-both k l p)
 
 pub side-refused : (k : ℕ) (l : Line) (p : Point) (s : Side) → (sideAnswer k l p s .refusal ≡ 4) ↔ (LineNear k l × Near k p → ⊥)
 side-refused k l p s = chosen-exactly (λ v. v .refusal) refl refl (lit< tt) (side-chosen k l p s)

@@ -43,15 +43,15 @@ equationAnswer k l =
     (record { refusal = coordinateRefused; equation = record { normal = pointOf (pos 0) (pos 0); distance = pos 0 } })
 
 -- whether a line and a point are both inside the limit
-unfoldable pub areNear : ℕ → Line → Point → Bool
-areNear k l p = isLineNear k l && isNear k p
+unfoldable pub areInside : ℕ → Line → Point → Bool
+areInside k l p = isLineNear k l && isNear k p
 
 unfoldable pub distanceAnswer : ℕ → Line → Point → Measured
 distanceAnswer k l p =
-    cond (areNear k l p) (record { refusal = 0; distance = distanceOf (equationOf l) p })
+    cond (areInside k l p) (record { refusal = 0; distance = distanceOf (equationOf l) p })
     (record { refusal = coordinateRefused; distance = pos 0 })
 
 unfoldable pub sideAnswer : ℕ → Line → Point → Side → Tested
 sideAnswer k l p s =
-    cond (areNear k l p) (record { refusal = 0; holds = isOnSide (equationOf l) p s })
+    cond (areInside k l p) (record { refusal = 0; holds = isOnSide (equationOf l) p s })
     (record { refusal = coordinateRefused; holds = false })

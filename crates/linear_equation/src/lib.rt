@@ -1,7 +1,7 @@
 //! The equation of a line, how far a point lies from it, and on which side: the integer half of `linear_equation.rs`.
 ghost use mathlib.Core.Path.{_≡_};
 ghost use Rattle.shapes.specs.Limits.{crossingLimit};
-ghost use Rattle.linear_equation.specs.Equation.{areNear, equationAnswer, distanceAnswer, sideAnswer};
+ghost use Rattle.linear_equation.specs.Equation.{areInside, equationAnswer, distanceAnswer, sideAnswer};
 
 pub mod inner; // inner.rt: the same without the tests
 
@@ -12,6 +12,7 @@ use shapes::inner::is_line_near;
 use shapes::inner::is_near;
 use shapes::limits::CROSSING;
 use shapes::refusals::COORDINATE;
+use whole::inner::both;
 
 /// A line as those points p at which the dot product of p and `normal` is `distance`.
 pub struct LinearEquation {
@@ -94,11 +95,7 @@ pub fn check_side(line: Line, point: Point, side: Side) -> Tested
 
 /// Whether a line and a point are both inside the limit.
 fn are_near(line: Line, point: Point) -> bool
-    ensures { λ r. ⌜ r ≡ areNear crossingLimit line point ⌝ }
+    ensures { λ r. ⌜ r ≡ areInside crossingLimit line point ⌝ }
 {
-    if is_line_near(line, CROSSING) {
-        is_near(point, CROSSING)
-    } else {
-        false
-    }
+    both(is_line_near(line, CROSSING), is_near(point, CROSSING))
 }

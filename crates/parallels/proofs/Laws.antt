@@ -58,28 +58,19 @@ grew {plan} {acc} true h some grows =
     let fair = h .across-fair in
     let gain = grows refl in
     let after = sum acc (p .gain) in
-    let twice = times 2 (p .threshold) in
-    let size = parts {z = acc} (omega linear) in
-    let a = parts {z = p .threshold} (omega linear) in
-    let total = parts {z = acc +ℤ p .gain} (omega linear) in
-    record { some = omega linear; more = omega linear; least = omega linear; most = omega linear }
+    omega (linear, times 2 (p .threshold), parts {z = acc} (omega linear), parts {z = p .threshold} (omega linear), parts {z = acc +ℤ p .gain} (omega linear))
 grew {plan} {acc} false h some grows =
     let p = plan .perpendicular in
     let fair = h .across-fair in
     let after = sum acc (p .loss) in
     let twice = times 2 (p .threshold) in
-    let size = parts {z = acc} (omega linear) in
-    let a = parts {z = p .threshold} (omega linear) in
-    let total = parts {z = acc +ℤ p .loss} (omega linear) in
-    record { some = omega linear; more = omega linear; least = omega linear; most = omega linear }
+    omega (linear, parts {z = acc} (omega linear), parts {z = p .threshold} (omega linear), parts {z = acc +ℤ p .loss} (omega linear))
 
--- ---- how far a side is where a parallel follows
+-- ---- one parallel keeps what holds of a state
 
 -- at most so far from the line's start, in each axis
 abbrev pub shift : ℕ → ℕ
 shift w = 4 * w + 1
-
--- ---- one parallel keeps what holds of a state
 
 paid-more : {o : Point} {plan : Plan} {acc after : ℤ} {side : Side} {f : Flank} → natAbs acc ≤ natAbs after → Paid o plan acc side f → Paid o plan after side f
 paid-more h p = record { steady = p .steady; far = p .far; reach = p .reach; paid = omega arith }
@@ -87,45 +78,40 @@ paid-more h p = record { steady = p .steady; far = p .far; reach = p .reach; pai
 paid-took : {o : Point} {plan : Plan} {acc : ℤ} {side : Side} {f : Flank} {t : Taken} → Took plan side f t → Grown plan acc (t .extra) → Paid o plan acc side f → Paid o plan (grown plan acc (t .extra)) side (t .flank)
 paid-took {plan} {acc} {t} v g p = record { steady = v .steady; far = p .far + cond (t .extra) 0 2; reach = v .reach (p .reach); paid = omega (arith, g .least, p .paid) }
 
+-- both sides of a state, by the one and the other
+pub sided-paid : {o : Point} {plan : Plan} {acc : ℤ} {this other : Flank} (side next : Side) → Paid o plan acc side this → Paid o plan acc (swapped side) other → (x : Side) → Paid o plan acc x (flankAt x (sided side this other acc next))
+sided-paid Left next p q Left = p
+sided-paid Left next p q Right = q
+sided-paid Right next p q Left = q
+sided-paid Right next p q Right = p
+
 module _ (w : ℕ) (plan : Plan) (h : Sound w plan) (o : Point) where
   -- the next parallel of the side that is next
-  abbrev nextOn : Side → Parallels → Taken
-  nextOn side s = nextParallel plan side (flankAt side s)
+  abbrev taken : Parallels → Taken
+  taken s = nextParallel plan (s .side) (flankAt (s .side) s)
 
-  pub on-side : (side : Side) (s : Parallels) → Going w plan o s → Paid o plan (s .accumulator) side (flankAt side s)
-  on-side Left s g = g .left-paid
-  on-side Right s g = g .right-paid
+  pub yield-took : (s : Parallels) → Going w plan o s → Took plan (s .side) (flankAt (s .side) s) (taken s)
+  yield-took s g = took h (s .side) (g .paid (s .side) .steady)
 
-  grew-on : (side : Side) (s : Parallels) → Going w plan o s → Grown plan (s .accumulator) (nextOn side s .extra)
-  grew-on side s g = grew (nextOn side s .extra) h (g .some) (took h side (on-side side s g .steady) .grows)
-
-  going-by : (side next : Side) (s : Parallels) → Going w plan o s → isDone plan s ≡ false → Going w plan o (sided side (nextOn side s .flank) (flankAt (swapped side) s) (grown plan (s .accumulator) (nextOn side s .extra)) next)
-  unfolding isDone
-  going-by Left next s g e =
-      let r = grew-on Left s g in
-      let small = follows-most w plan h (s .accumulator) (g .some) e in
-      let v = took h Left (g .left-paid .steady) in
-      record { some = r .some; most = omega (arith, r .most); left-paid = paid-took v r (g .left-paid); right-paid = paid-more (omega (arith, r .more)) (g .right-paid) }
-  going-by Right next s g e =
-      let r = grew-on Right s g in
-      let small = follows-most w plan h (s .accumulator) (g .some) e in
-      let v = took h Right (g .right-paid .steady) in
-      record { some = r .some; most = omega (arith, r .most); left-paid = paid-more (omega (arith, r .more)) (g .left-paid); right-paid = paid-took v r (g .right-paid) }
+  yield-grown : (s : Parallels) → Going w plan o s → Grown plan (s .accumulator) (taken s .extra)
+  yield-grown s g = grew (taken s .extra) h (g .some) (yield-took s g .grows)
 
   pub going-next : (s : Parallels) → Going w plan o s → isDone plan s ≡ false → Going w plan o (yieldOf plan s .state)
-  unfolding yieldOf
-  going-next s g e = going-by (s .side) (followed (plan .offset) (s .side)) s g e
+  unfolding yieldOf isDone
+  going-next s g e =
+      let r = yield-grown s g in
+      let small = follows-most w plan h (s .accumulator) (g .some) e in
+      record {
+        some = r .some;
+        most = omega (arith, r .most);
+        paid = sided-paid (s .side) (followed (plan .offset) (s .side)) (paid-took (yield-took s g) r (g .paid (s .side))) (paid-more (omega (arith, r .more)) (g .paid (swapped (s .side))));
+      }
 
   -- ---- the parallels end
 
-  spare-by : (side next : Side) (s : Parallels) → Going w plan o s → isDone plan s ≡ false → spare plan (sided side (nextOn side s .flank) (flankAt (swapped side) s) (grown plan (s .accumulator) (nextOn side s .extra)) next) < spare plan s
-  unfolding spare isDone
-  spare-by Left next s g e = omega (arith, grew-on Left s g .more, follows-below w plan h (s .accumulator) (g .some) e)
-  spare-by Right next s g e = omega (arith, grew-on Right s g .more, follows-below w plan h (s .accumulator) (g .some) e)
-
   pub spare-next : (s : Parallels) → Going w plan o s → isDone plan s ≡ false → spare plan (yieldOf plan s .state) < spare plan s
-  unfolding yieldOf
-  spare-next s g e = spare-by (s .side) (followed (plan .offset) (s .side)) s g e
+  unfolding yieldOf spare isDone
+  spare-next s g e = omega (arith, yield-grown s g .more, follows-below w plan h (s .accumulator) (g .some) e)
 
   -- so many or more are all
   enough-by : (n m : ℕ) (s : Parallels) (t : Bool) → isDone plan s ≡ t → Going w plan o s → spare plan s ≤ n → spare plan s ≤ m → parallelsFrom n plan s ≡ parallelsFrom m plan s
@@ -160,13 +146,10 @@ module _ (w : ℕ) (plan : Plan) (h : Sound w plan) (o : Point) where
 
   -- ---- how far a parallel is from the line's start
 
-  pub yield-took : (s : Parallels) → Going w plan o s → Took plan (s .side) (flankAt (s .side) s) (nextOn (s .side) s)
-  yield-took s g = took h (s .side) (on-side (s .side) s g .steady)
-
   pub yield-away : (s : Parallels) → Going w plan o s → isDone plan s ≡ false → Away o (shift w) (yieldOf plan s .parallel .start .point)
   unfolding isDone yieldOf
   yield-away s g e =
-      let p = on-side (s .side) s g in
+      let p = g .paid (s .side) in
       let small = follows-most w plan h (s .accumulator) (g .some) e in
       away-more (yield-took s g .away (p .reach)) (quotient-most (larger plan) (p .far) w (natAbs (s .accumulator)) (larger-small h .0) (p .paid) small)
 
@@ -175,25 +158,21 @@ module _ (w : ℕ) (plan : Plan) (h : Sound w plan) (o : Point) where
   abbrev debt : Parallels → ℕ
   debt s = owed (plan .perpendicular) Left (s .left .at .error) + owed (plan .perpendicular) Right (s .right .at .error)
 
-  debt-by : (side next : Side) (s : Parallels) → Going w plan o s → debt (sided side (nextOn side s .flank) (flankAt (swapped side) s) (grown plan (s .accumulator) (nextOn side s .extra)) next) + 1 ≤ debt s + cond (nextOn side s .extra) 0 2
-  debt-by Left next s g = omega (arith, took h Left (g .left-paid .steady) .spent)
-  debt-by Right next s g = omega (arith, took h Right (g .right-paid .steady) .spent)
-
-  grown-by : (side next : Side) (s : Parallels) → Going w plan o s → natAbs (s .accumulator) + cond (nextOn side s .extra) 0 2 * larger plan ≤ natAbs (sided side (nextOn side s .flank) (flankAt (swapped side) s) (grown plan (s .accumulator) (nextOn side s .extra)) next .accumulator)
-  grown-by Left next s g = grew-on Left s g .least
-  grown-by Right next s g = grew-on Right s g .least
-
   -- a step takes as much off as it adds
+  debt-by : (side next : Side) (s : Parallels) (t : Taken) (acc : ℤ) → Took plan side (flankAt side s) t → debt (sided side (t .flank) (flankAt (swapped side) s) acc next) + 1 ≤ debt s + cond (t .extra) 0 2
+  debt-by Left next s t acc v = omega (arith, v .spent)
+  debt-by Right next s t acc v = omega (arith, v .spent)
+
+  yield-debt : (s : Parallels) → Going w plan o s → debt (yieldOf plan s .state) + 1 ≤ debt s + cond (taken s .extra) 0 2
+  unfolding yieldOf
+  yield-debt s g = debt-by (s .side) (followed (plan .offset) (s .side)) s (taken s) (s .accumulator) (yield-took s g)
+
+  yield-least : (s : Parallels) → Going w plan o s → natAbs (s .accumulator) + cond (taken s .extra) 0 2 * larger plan ≤ natAbs (yieldOf plan s .state .accumulator)
+  unfolding yieldOf
+  yield-least s g = yield-grown s g .least
+
   abbrev left-over : ℕ
   left-over = 4 * w * larger plan + 2 * larger plan
-
-  yield-grown : (s : Parallels) → Going w plan o s → natAbs (s .accumulator) + cond (nextOn (s .side) s .extra) 0 2 * larger plan ≤ natAbs (yieldOf plan s .state .accumulator)
-  unfolding yieldOf
-  yield-grown s g = grown-by (s .side) (followed (plan .offset) (s .side)) s g
-
-  yield-debt : (s : Parallels) → Going w plan o s → debt (yieldOf plan s .state) + 1 ≤ debt s + cond (nextOn (s .side) s .extra) 0 2
-  unfolding yieldOf
-  yield-debt s g = debt-by (s .side) (followed (plan .offset) (s .side)) s g
 
   most-by : (n : ℕ) (s : Parallels) (t : Bool) → isDone plan s ≡ t → Going w plan o s → larger plan * length (parallelsFrom n plan s) + natAbs (s .accumulator) ≤ left-over + larger plan * debt s
   unfolding parallelsFrom
@@ -201,9 +180,8 @@ module _ (w : ℕ) (plan : Plan) (h : Sound w plan) (o : Point) where
   most-by (suc n) s true e g = rw e (omega (arith, g .most))
   most-by (suc n) s false e g =
       let s₁ = yieldOf plan s .state in
-      let x : ℕ = cond (nextOn (s .side) s .extra) 0 2 in
       let rest = most-by n s₁ (isDone plan s₁) refl (going-next s g e) in
-      rw e (payment-step (larger plan) (length (parallelsFrom n plan s₁)) (natAbs (s .accumulator)) (natAbs (s₁ .accumulator)) (debt s) (debt s₁) x left-over rest (yield-grown s g) (yield-debt s g))
+      rw e (payment-step (larger plan) (length (parallelsFrom n plan s₁)) (natAbs (s .accumulator)) (natAbs (s₁ .accumulator)) (debt s) (debt s₁) (cond (taken s .extra) 0 2) left-over rest (yield-least s g) (yield-debt s g))
 
   -- at most 4w + 4 parallels follow
   pub parallels-most : (s : Parallels) → Going w plan o s → length (parallels plan s) ≤ 4 * w + 4

@@ -1,5 +1,4 @@
 pub mod Laws
 pub mod Plans
-pub mod Refusals
 pub mod Room
 pub mod Steps

@@ -11,23 +11,22 @@ use lib.Signed.{quotZ, _≤ℤ_}
 use Rattle.whole.specs.Number.{eqZ}
 use Rattle.whole.proofs.Linear.{linear, sum, diff, opp, times, abs-parts, le-or-lt}
 use Rattle.whole.proofs.Bounds.{abs-neg, abs-mul}
-use Rattle.whole.proofs.Machine.{eqZ-refl}
-use Rattle.whole.proofs.Steps.{lt-no, le-no, parts, square-is, far-none, half-natural, squares-most}
+use Rattle.whole.proofs.Orders.{eqZ-refl, ordered}
+use Rattle.whole.proofs.Steps.{parts, square-is, far-none, half-natural, squares-most}
 use Rattle.shapes.specs.declared.Point.{Point}
 use Rattle.shapes.specs.declared.Line.{Line}
 use Rattle.shapes.specs.declared.Side.{Side}
 use Rattle.shapes.specs.declared.Side.the-variants.{Left, Right}
 use Rattle.shapes.specs.declared.Offset.{Offset}
 use Rattle.shapes.specs.Limits.{lineLimit}
-use Rattle.shapes.specs.Shape.{pointOf, lineOf, Near, LineNear, plus, minus, delta, perpendicular, squaredLength, dotProduct}
+use Rattle.shapes.specs.Shape.{pointOf, lineOf, Near, LineNear, plus, minus, delta, perpendicular, squaredLength, dotProduct, samePoint}
 use Rattle.shapes.proofs.Laws.{near-delta}
 use Rattle.bresenham.specs.Walk.{placeOf, parametersAlong}
 use Rattle.bresenham.proofs.Laws.{Larger, larger as larger-of}
 use Rattle.parallels.specs.declared.Plan.{Plan}
 use Rattle.parallels.specs.declared.Flank.{Flank}
-use Rattle.parallels.specs.Parallels.{due, owed, sided, swapped, firstSide, freshFlank, nextParallel, startOf, samePoint, aimed, turnedBack, thickness, planAlong, planOf, parallelsOf}
-use Rattle.parallels.specs.Parallels.{deltaLimit, larger, Sound, Steady, Reach, Ready, Paid, Going}
-use Rattle.parallels.proofs.Laws.{parallels-most}
+use Rattle.parallels.specs.Parallels.{due, owed, swapped, firstSide, freshFlank, nextParallel, startOf, aimed, turnedBack, thickness, planAlong, planOf, parallelsOf, deltaLimit, larger, Sound, Steady, Reach, Ready, Paid, Going}
+use Rattle.parallels.proofs.Laws.{sided-paid, parallels-most}
 use Rattle.parallels.proofs.Steps.{took, reach-more}
 
 -- ---- the state before the first parallel
@@ -45,11 +44,8 @@ module _ (w : ℕ) (plan : Plan) (h : Sound w plan) (p : Point) where
       record { ranged = record { above = omega linear; below = omega linear }; bounded = record { above = omega linear; below = omega linear } }
 
   fresh-due : (side : Side) → due (plan .perpendicular) side (pos 0) ≡ false
-  fresh-due Left = let fair = h .across-fair in lt-no (plan .perpendicular .threshold) (pos 0) (omega linear)
-  fresh-due Right =
-      let fair = h .across-fair in
-      let a = plan .perpendicular .threshold in
-      le-no (pos 0) (negℤ a) (omega (linear, opp a, sum (negℤ a) (pos 1)))
+  fresh-due Left = omega (ordered, h .across-fair)
+  fresh-due Right = omega (ordered, h .across-fair, opp (plan .perpendicular .threshold))
 
   fresh-reach : (side : Side) → Reach p 0 (plan .perpendicular) side (placeOf p (pos 0))
   fresh-reach side =
@@ -92,13 +88,11 @@ module _ (w : ℕ) (plan : Plan) (h : Sound w plan) (p : Point) where
       let t = took h side fresh-steady in
       side-paid side (nextParallel plan side (freshFlank p) .flank) _ (t .steady) (t .reach (fresh-reach side)) (extra-most (nextParallel plan side (freshFlank p) .extra))
 
-  started-by : (first next : Side) → Going w plan p (sided first (freshFlank p) (nextParallel plan (swapped first) (freshFlank p) .flank) begin next)
-  started-by Left next = record { some = half .some; most = omega (arith, half .most); left-paid = fresh-paid Left; right-paid = skipped-paid Right }
-  started-by Right next = record { some = half .some; most = omega (arith, half .most); left-paid = skipped-paid Left; right-paid = fresh-paid Right }
-
   pub going-start : Going w plan p (startOf plan p)
   unfolding startOf
-  going-start = started-by (firstSide (plan .offset)) (firstSide (plan .offset))
+  going-start =
+      let first = firstSide (plan .offset) in
+      record { some = half .some; most = omega (arith, half .most); paid = sided-paid first first (fresh-paid first) (skipped-paid (swapped first)) }
 
 -- ---- the plan of a delta that is not (0,0)
 

@@ -1,2 +1,1 @@
 pub mod Parallels
-pub mod Refusal

@@ -1,11 +1,10 @@
 -- The parallels of a thick line, as the Rust's ParallelsIterator has them.
 use mathlib.Core.Path.{_≡_}
-use mathlib.Core.Bool.{Bool, true, false, not, _&&_, cond}
+use mathlib.Core.Bool.{Bool, true, false, not, cond}
 use mathlib.Core.List.{List, [], _∷_}
 use Prim.Native.Nat.{ℕ, zero, suc, _+_, _*_, _-_, _^_, _≤_}
 use lib.IntN.{ℤ, pos, natAbs, negℤ, _+ℤ_, _-ℤ_, _*ℤ_}
 use lib.Signed.{ltZ, leZ, quotZ, _≤ℤ_}
-use Rattle.whole.specs.Number.{eqZ}
 use Rattle.shapes.specs.declared.Point.{Point}
 use Rattle.shapes.specs.declared.Line.{Line}
 use Rattle.shapes.specs.declared.Side.{Side}
@@ -13,7 +12,7 @@ use Rattle.shapes.specs.declared.Side.the-variants.{Left, Right}
 use Rattle.shapes.specs.declared.Offset.{Offset}
 use Rattle.shapes.specs.declared.Offset.the-variants as offset
 use Rattle.shapes.specs.Limits.{lineLimit}
-use Rattle.shapes.specs.Shape.{pointOf, Near, delta, squaredLength}
+use Rattle.shapes.specs.Shape.{pointOf, samePoint, Near, delta, squaredLength}
 use Rattle.bresenham.specs.declared.Parameters.{Parameters}
 use Rattle.bresenham.specs.declared.Bresenham.{Bresenham}
 use Rattle.bresenham.specs.declared.Met.{Met}
@@ -49,10 +48,13 @@ abbrev pub flankAt : Side → Parallels → Flank
 flankAt Left s = s .left
 flankAt Right s = s .right
 
--- both sides, one of them named first
+-- both sides, the one on `side` named first
+abbrev pub leftOf : Side → Flank → Flank → Flank
+leftOf Left this other = this
+leftOf Right this other = other
+
 abbrev pub sided : Side → Flank → Flank → ℤ → Side → Parallels
-sided Left this other acc next = record { left = this; right = other; accumulator = acc; side = next }
-sided Right this other acc next = record { left = other; right = this; accumulator = acc; side = next }
+sided side this other acc next = record { left = leftOf side this other; right = leftOf side other this; accumulator = acc; side = next }
 
 -- ---- one step across a side
 
@@ -74,30 +76,25 @@ bent p falling e =
     (record { first = increased p e .error; error = increased p e .error; carry = increased p e .carry })
 
 abbrev pub normalTurn : Met → ℤ → Turn
-normalTurn m e = record { start = placeOf (m .point) e; extra = false; met = true; flank = record { at = m .state; error = e } }
+normalTurn m e = record { taken = record { start = placeOf (m .point) e; extra = false; flank = record { at = m .state; error = e } }; met = true }
 
 abbrev pub extraTurn : Met → Bent → Turn
-extraTurn m b = record { start = placeOf (m .point) (b .first); extra = true; met = b .carry; flank = record { at = m .state; error = b .error } }
+extraTurn m b = record { taken = record { start = placeOf (m .point) (b .first); extra = true; flank = record { at = m .state; error = b .error } }; met = b .carry }
 
 -- a Normal point is met, and an Extra one where the error carries
-unfoldable pub turnOf : Plan → Side → Flank → Turn
-turnOf plan side f =
-    let m = across (plan .perpendicular) side (f .at) in
-    cond (m .extra) (extraTurn m (bent (plan .parallel) (falls (plan .flip) side) (f .error))) (normalTurn m (f .error))
+abbrev pub turnAt : Plan → Side → ℤ → Met → Turn
+turnAt plan side e m = cond (m .extra) (extraTurn m (bent (plan .parallel) (falls (plan .flip) side) e)) (normalTurn m e)
 
-abbrev pub takenOf : Turn → Taken
-takenOf t = record { start = t .start; extra = t .extra; flank = t .flank }
+unfoldable pub turnOf : Plan → Side → Flank → Turn
+turnOf plan side f = turnAt plan side (f .error) (across (plan .perpendicular) side (f .at))
 
 -- a point that is not met is passed over within the same call; at most one is (`passed-once`)
 unfoldable pub nextParallel : Plan → Side → Flank → Taken
 nextParallel plan side f =
     let t = turnOf plan side f in
-    cond (t .met) (takenOf t) (takenOf (turnOf plan side (t .flank)))
+    cond (t .met) (t .taken) (turnOf plan side (t .taken .flank) .taken)
 
 -- ---- the plan of a line
-
-unfoldable pub samePoint : Point → Point → Bool
-samePoint a b = eqZ (a .x) (b .x) && eqZ (a .y) (b .y)
 
 -- equal start and end take direction and squared length from (0,0)-(1,0)
 unfoldable pub aimed : Line → Point
@@ -146,13 +143,14 @@ isDone plan s = ltZ (plan .threshold) (s .accumulator *ℤ s .accumulator)
 unfoldable pub grown : Plan → ℤ → Bool → ℤ
 grown plan acc extra = acc +ℤ cond extra (plan .perpendicular .gain) (plan .perpendicular .loss)
 
+-- a parallel that is handed out, and the state after it
+abbrev pub handed : Side → Taken → Flank → ℤ → Side → Yielded
+handed side t other acc next = record { parallel = record { side = side; start = t .start; extra = t .extra }; state = sided side (t .flank) other acc next }
+
 unfoldable pub yieldOf : Plan → Parallels → Yielded
 yieldOf plan s =
     let t = nextParallel plan (s .side) (flankAt (s .side) s) in
-    record {
-      parallel = record { side = s .side; start = t .start; extra = t .extra };
-      state = sided (s .side) (t .flank) (flankAt (swapped (s .side)) s) (grown plan (s .accumulator) (t .extra)) (followed (plan .offset) (s .side));
-    }
+    handed (s .side) t (flankAt (swapped (s .side)) s) (grown plan (s .accumulator) (t .extra)) (followed (plan .offset) (s .side))
 
 -- at most n of the parallels from here
 unfoldable pub parallelsFrom : ℕ → Plan → Parallels → List Parallel
@@ -176,6 +174,10 @@ parallelsOf l width offset = parallels (planOf l width offset) (startOf (planOf 
 -- the delta of a line within the lines' limit
 abbrev pub deltaLimit : ℕ
 deltaLimit = 2 ^ 15
+
+-- widths whose thresholds 64 bits hold, for every such delta: no limit of 01, but of the machine
+abbrev pub thickLimit : ℕ
+thickLimit = 2 ^ 10
 
 -- whether an Extra step is due on a side, and that as a number
 abbrev pub due : Parameters → Side → ℤ → Bool
@@ -232,8 +234,7 @@ pub record Paid (o : Point) (plan : Plan) (acc : ℤ) (side : Side) (f : Flank) 
 pub record Going (w : ℕ) (plan : Plan) (o : Point) (s : Parallels) : Type 0 where
   pub some : pos 1 ≤ℤ s .accumulator
   pub most : natAbs (s .accumulator) ≤ 4 * w * larger plan + 2 * larger plan
-  pub left-paid : Paid o plan (s .accumulator) Left (s .left)
-  pub right-paid : Paid o plan (s .accumulator) Right (s .right)
+  pub paid : (side : Side) → Paid o plan (s .accumulator) side (flankAt side s)
 
 -- what a step to the next parallel asks
 pub record Begun (w : ℕ) (plan : Plan) (s : Parallels) : Type 0 where

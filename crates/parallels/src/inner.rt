@@ -1,15 +1,11 @@
 //! The parallels of a line, one at a time. Each function asks for a plan and a state that `plan_of`, `start` or a step gave.
 ghost use mathlib.Core.Path.{_≡_};
 ghost use Prim.Native.Nat.{_^_};
-ghost use Rattle.shapes.specs.Limits.{lineLimit, widthLimit};
+ghost use Rattle.shapes.specs.Limits.{lineLimit};
 ghost use Rattle.shapes.specs.Shape.{Near, LineNear};
 ghost use Rattle.whole.specs.Number.{Within};
 ghost use Rattle.bresenham.specs.Walk.{stepLimit, Sized, Placed};
-ghost use Rattle.parallels.specs.Parallels.{samePoint, firstSide, swapped, falls, across as acrossOf, bent};
-ghost use Rattle.parallels.specs.Parallels.{turnOf, nextParallel, planAlong, planOf};
-ghost use Rattle.parallels.specs.Parallels.{followed, flankAt, sided, startOf, isDone, grown, yieldOf};
-ghost use Rattle.parallels.specs.Refusal.{strokeRefusal};
-ghost use Rattle.parallels.specs.Parallels.{deltaLimit, Sound, Ready, Begun};
+ghost use Rattle.parallels.specs.Parallels.{firstSide, swapped, falls, across as acrossOf, bent, normalTurn, extraTurn, turnOf, nextParallel, planAlong, planOf, followed, flankAt, sided, startOf, isDone, grown, handed, yieldOf, deltaLimit, thickLimit, Sound, Ready, Begun};
 use crate::Bent;
 use crate::Flank;
 use crate::Parallel;
@@ -31,28 +27,8 @@ use shapes::Offset;
 use shapes::Point;
 use shapes::Side;
 use shapes::inner::delta;
-use shapes::inner::is_line_near;
+use shapes::inner::same_point;
 use shapes::inner::squared_length;
-use shapes::limits;
-use shapes::refusals::COORDINATE;
-use shapes::refusals::WIDTH;
-
-/// Whether two points are the same.
-pub fn same_point(a: Point, b: Point) -> bool
-    ensures { λ r. ⌜ r ≡ samePoint a b ⌝ }
-{
-    let ax = a.x;
-    let ay = a.y;
-    let bx = b.x;
-    let by = b.y;
-    if ax != bx {
-        return false;
-    }
-    if ay != by {
-        return false;
-    }
-    true
-}
 
 /// The side that the first parallel is on.
 pub fn first_side(offset: Offset) -> Side
@@ -119,69 +95,82 @@ pub fn bend(p: Parameters, falling: bool, error: i64) -> Bent
     }
 }
 
+/// The parallel that starts at a Normal point, with the error of its side.
+pub fn normal_turn(met: Met, error: i64) -> Turn
+    ensures { λ r. ⌜ r ≡ normalTurn met error ⌝ }
+{
+    let point = met.point;
+    let at = met.state;
+    let start = Bresenham { point, error };
+    let flank = Flank { at, error };
+    let taken = Taken {
+        start,
+        extra: false,
+        flank,
+    };
+    Turn { taken, met: true }
+}
+
+/// The parallel that starts at an Extra point: it is met where the error carries.
+pub fn extra_turn(met: Met, bent: Bent) -> Turn
+    ensures { λ r. ⌜ r ≡ extraTurn met bent ⌝ }
+{
+    let point = met.point;
+    let at = met.state;
+    let start = Bresenham {
+        point,
+        error: bent.first,
+    };
+    let flank = Flank {
+        at,
+        error: bent.error,
+    };
+    let taken = Taken {
+        start,
+        extra: true,
+        flank,
+    };
+    Turn {
+        taken,
+        met: bent.carry,
+    }
+}
+
 /// One step across a side, and the parallel that starts there: it is met where the step is Normal or the error carries.
 pub fn turn(plan: Plan, side: Side, flank: Flank) -> Turn
-    requires { ⌜ Sound widthLimit plan ⌝ }
+    requires { ⌜ Sound thickLimit plan ⌝ }
     requires { ⌜ Ready plan side flank ⌝ }
     ensures { λ r. ⌜ r ≡ turnOf plan side flank ⌝ }
 {
-    let error = flank.error;
     let met = across(plan.perpendicular, side, flank.at);
-    let point = met.point;
-    let at = met.state;
     if met.extra {
-        let bent = bend(plan.parallel, is_falling(plan.flip, side), error);
-        let start = Bresenham {
-            point,
-            error: bent.first,
-        };
-        let after = Flank {
-            at,
-            error: bent.error,
-        };
-        return Turn {
-            start,
-            extra: true,
-            met: bent.carry,
-            flank: after,
-        };
+        let falling = is_falling(plan.flip, side);
+        return extra_turn(met, bend(plan.parallel, falling, flank.error));
     }
-    let start = Bresenham { point, error };
-    let after = Flank { at, error };
-    Turn {
-        start,
-        extra: false,
-        met: true,
-        flank: after,
-    }
+    normal_turn(met, flank.error)
 }
 
 /// The next parallel of a side: a point that does not carry is passed over.
 pub fn next_parallel(plan: Plan, side: Side, flank: Flank) -> Taken
-    requires { ⌜ Sound widthLimit plan ⌝ }
+    requires { ⌜ Sound thickLimit plan ⌝ }
     requires { ⌜ Ready plan side flank ⌝ }
     ensures { λ r. ⌜ r ≡ nextParallel plan side flank ⌝ }
 {
     let mut from = flank;
     loop {
-        let met = turn(plan, side, from);
-        let start = met.start;
-        let after = met.flank;
-        if met.met {
-            break Taken {
-                start,
-                extra: met.extra,
-                flank: after,
-            };
+        let turned = turn(plan, side, from);
+        let taken = turned.taken;
+        if turned.met {
+            break taken;
         }
-        from = after;
+        from = taken.flank;
     }
 }
 
 /// The plan of the lines that have a delta, for a width and an offset.
 pub fn plan_along(d: Point, width: i64, offset: Offset) -> Plan
     requires { ⌜ Near deltaLimit d ⌝ }
-    requires { ⌜ Within width widthLimit ⌝ }
+    requires { ⌜ Within width thickLimit ⌝ }
     ensures { λ r. ⌜ r ≡ planAlong d width offset ⌝ }
 {
     let parallel = parameters_along(d);
@@ -207,7 +196,7 @@ pub fn plan_along(d: Point, width: i64, offset: Offset) -> Plan
 /// The plan of a line for a width and an offset. A line whose start is its end goes as (0,0)-(1,0) does.
 pub fn plan_of(line: Line, width: i64, offset: Offset) -> Plan
     requires { ⌜ LineNear lineLimit line ⌝ }
-    requires { ⌜ Within width widthLimit ⌝ }
+    requires { ⌜ Within width thickLimit ⌝ }
     ensures { λ r. ⌜ r ≡ planOf line width offset ⌝ }
 {
     if same_point(line.start, line.end) {
@@ -262,7 +251,7 @@ pub fn sides(side: Side, this: Flank, other: Flank, accumulator: i64, next: Side
 /// The state before the first parallel of a line that starts at `point`: the line itself is skipped on the side that is
 /// not first.
 pub fn start(plan: Plan, point: Point) -> Parallels
-    requires { ⌜ Sound widthLimit plan ⌝ }
+    requires { ⌜ Sound thickLimit plan ⌝ }
     requires { ⌜ Near lineLimit point ⌝ }
     ensures { λ r. ⌜ r ≡ startOf plan point ⌝ }
 {
@@ -278,8 +267,8 @@ pub fn start(plan: Plan, point: Point) -> Parallels
 
 /// Whether no parallel follows.
 pub fn is_done(plan: Plan, state: Parallels) -> bool
-    requires { ⌜ Sound widthLimit plan ⌝ }
-    requires { ⌜ Begun widthLimit plan state ⌝ }
+    requires { ⌜ Sound thickLimit plan ⌝ }
+    requires { ⌜ Begun thickLimit plan state ⌝ }
     ensures { λ r. ⌜ r ≡ isDone plan state ⌝ }
 {
     let accumulator = state.accumulator;
@@ -288,8 +277,8 @@ pub fn is_done(plan: Plan, state: Parallels) -> bool
 
 /// The accumulator after a parallel.
 pub fn grow(plan: Plan, accumulator: i64, extra: bool) -> i64
-    requires { ⌜ Sound widthLimit plan ⌝ }
-    requires { ⌜ Within accumulator (2 ^ 24) ⌝ }
+    requires { ⌜ Sound thickLimit plan ⌝ }
+    requires { ⌜ Within accumulator (2 ^ 28) ⌝ }
     ensures { λ r. ⌜ r ≡ grown plan accumulator extra ⌝ }
 {
     let across = plan.perpendicular;
@@ -299,39 +288,30 @@ pub fn grow(plan: Plan, accumulator: i64, extra: bool) -> i64
     accumulator + across.loss
 }
 
+/// A parallel that is handed out, and the state after it.
+pub fn hand_out(side: Side, taken: Taken, other: Flank, accumulator: i64, next: Side) -> Yielded
+    ensures { λ r. ⌜ r ≡ handed side taken other accumulator next ⌝ }
+{
+    let start = taken.start;
+    let parallel = Parallel {
+        side,
+        start,
+        extra: taken.extra,
+    };
+    let state = sides(side, taken.flank, other, accumulator, next);
+    Yielded { parallel, state }
+}
+
 /// The next parallel, of a state that is not done.
 pub fn next(plan: Plan, state: Parallels) -> Yielded
-    requires { ⌜ Sound widthLimit plan ⌝ }
-    requires { ⌜ Begun widthLimit plan state ⌝ }
+    requires { ⌜ Sound thickLimit plan ⌝ }
+    requires { ⌜ Begun thickLimit plan state ⌝ }
     ensures { λ r. ⌜ r ≡ yieldOf plan state ⌝ }
 {
     let offset = plan.offset;
     let side = state.side;
     let taken = next_parallel(plan, side, flank_at(state, side));
-    let extra = taken.extra;
-    let start = taken.start;
-    let accumulator = grow(plan, state.accumulator, extra);
     let other = flank_at(state, swap(side));
-    let parallel = Parallel { side, start, extra };
-    let after = sides(side, taken.flank, other, accumulator, follow(offset, side));
-    Yielded {
-        parallel,
-        state: after,
-    }
-}
-
-/// The refusal of a line and a width: 3 for a width outside 0 to 64, 4 for a coordinate outside 511, else 0.
-pub fn refusal(line: Line, width: i64) -> u64
-    ensures { λ r. ⌜ r ≡ strokeRefusal line width ⌝ }
-{
-    if width < 0 {
-        return WIDTH;
-    }
-    if limits::WIDTH < width {
-        return WIDTH;
-    }
-    if is_line_near(line, limits::POINT) {
-        return 0;
-    }
-    COORDINATE
+    let accumulator = grow(plan, state.accumulator, taken.extra);
+    hand_out(side, taken, other, accumulator, follow(offset, side))
 }

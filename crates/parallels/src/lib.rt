@@ -48,19 +48,17 @@ pub struct Bent {
     pub carry: bool,
 }
 
-/// One step across a side: the parallel that starts there, unless its point is to be passed over, and the side after it.
-pub struct Turn {
-    pub start: Bresenham,
-    pub extra: bool,
-    pub met: bool,
-    pub flank: Flank,
-}
-
 /// The next parallel of a side, and the side after it.
 pub struct Taken {
     pub start: Bresenham,
     pub extra: bool,
     pub flank: Flank,
+}
+
+/// One step across a side: the parallel that starts there, and whether it is met; else its point is to be passed over.
+pub struct Turn {
+    pub taken: Taken,
+    pub met: bool,
 }
 
 /// A parallel, and how far the parallels are after it.

@@ -1,10 +1,4 @@
-pub mod Bounds
-pub mod Places
-pub mod Offers
-pub mod Chains
 pub mod Drawn
-pub mod Laws
-pub mod Ranges
-pub mod Refused
-pub mod Told
-pub mod AllRows
+pub mod Kept
+pub mod Lists
+pub mod Offers

@@ -3,48 +3,50 @@
 use mathlib.Core.Path.{_≡_}
 use mathlib.Core.Bool.{Bool, true}
 use mathlib.Core.List.{List, [], _∷_, _++_}
-use Prim.Native.Nat.{_<_}
+use Prim.Native.Nat.{ℕ, _<_}
 use lib.IntN.{ℤ, pos}
 use lib.ListN.{length}
 use lib.Signed.{_≤ℤ_}
-use Rattle.shapes.specs.Limits.{cornerLimit, boardRuns}
+use Rattle.whole.specs.Places.{listFrom}
+use Rattle.shapes.specs.Limits.{boardRuns}
+use Rattle.shapes.specs.declared.limits.Limits.{Limits}
 use Rattle.shapes.specs.declared.Span.{Span}
+use Rattle.thick_segment.specs.Segments.{spanOn}
 use Rattle.board.specs.declared.Run.{Run}
 use Rattle.board.specs.Runs.{edge, Ascending}
-use Rattle.board.specs.Histories.{Event, offers, covered, Lights, runsIn, columns}
+use Rattle.board_laws.specs.Histories.{Event, offers, covered, Lights, runsIn, columns}
 use Rattle.route_joins.specs.Joins.{segmentAt, segmentCount}
-use Rattle.route.specs.Rows.{spansFrom}
 use Rattle.route.specs.Answers.{rowsAnswer, rowRefusal, rowAnswer, rowTo}
 
 -- the span of each segment on a row, in walk order
 unfoldable pub spansOn : Bool → List ℤ → ℤ → ℤ → List Span
-spansOn closed cs w row = spansFrom (segmentAt closed cs w) row 0 (segmentCount closed cs)
+spansOn closed cs w row = listFrom (λ k. spanOn (segmentAt closed cs w k) row) 0 (segmentCount closed cs)
 
 -- the history that offers spans in their order
 unfoldable pub offering : List Span → List Event
 offering [] = []
 offering (s ∷ ss) = offers s ∷ offering ss
 
--- "after some segment the union needs more than 32 runs": every list of runs, ascending with a dark column between, that lights just the
--- union of the spans up to that segment's has more
+-- "after some segment the union needs more than 32 runs": every list of runs that lights just the union of the spans up to that segment's
+-- has more
 pub record Crowded (ss : List Span) : Type 0 where
   pub before : List Span
   pub span : Span
   pub later : List Span
   pub split : ss ≡ before ++ (span ∷ later)
-  pub needs : (rs : List Run) → Ascending cornerLimit (edge cornerLimit) rs → Lights rs (covered (span ∷ before)) → boardRuns < length rs
+  pub needs : (rs : List Run) → Lights rs (covered (span ∷ before)) → boardRuns < length rs
 
 -- what a row that is not refused leaves: the runs in the lent list light just the columns that some span covers, they ascend with a dark
 -- column between, and the total is the number of these columns
-pub record RowTold (closed : Bool) (cs : List ℤ) (w row : ℤ) (out : List ℤ) : Type 0 where
-  pub lights : Lights (runsIn (rowAnswer closed cs w row (length out) .count) (rowTo closed cs w row out)) (covered (spansOn closed cs w row))
-  pub apart : Ascending cornerLimit (edge cornerLimit) (runsIn (rowAnswer closed cs w row (length out) .count) (rowTo closed cs w row out))
-  pub pixels : rowAnswer closed cs w row (length out) .total ≡ pos (columns (covered (spansOn closed cs w row)))
+pub record RowTold (limits : Limits) (closed : Bool) (cs : List ℤ) (w row : ℤ) (out : List ℤ) : Type 0 where
+  pub lights : Lights (runsIn (rowAnswer limits closed cs w row (length out) .count) (rowTo limits closed cs w row out)) (covered (spansOn closed cs w row))
+  pub apart : Ascending (limits .corner) (edge (limits .corner)) (runsIn (rowAnswer limits closed cs w row (length out) .count) (rowTo limits closed cs w row out))
+  pub pixels : rowAnswer limits closed cs w row (length out) .total ≡ pos (columns (limits .corner) (covered (spansOn closed cs w row)))
 
 -- one of the rows of a route has no room
-pub record SomeFull (closed : Bool) (cs : List ℤ) (w : ℤ) : Type 0 where
+pub record SomeFull (limits : Limits) (closed : Bool) (cs : List ℤ) (w : ℤ) : Type 0 where
   pub row : ℤ
-  pub some : rowsAnswer closed cs w .some ≡ true
-  pub from : rowsAnswer closed cs w .first ≤ℤ row
-  pub upto : row ≤ℤ rowsAnswer closed cs w .last
-  pub full : rowRefusal closed cs w row ≡ 8
+  pub some : rowsAnswer limits closed cs w .some ≡ true
+  pub from : rowsAnswer limits closed cs w .first ≤ℤ row
+  pub upto : row ≤ℤ rowsAnswer limits closed cs w .last
+  pub full : rowRefusal limits closed cs w row ≡ 8

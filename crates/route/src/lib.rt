@@ -1,23 +1,22 @@
 //! A route's rows: the columns that its segments light.
 ghost use mathlib.Core.Path.{_≡_};
 ghost use lib.ListN.{length};
+ghost use Rattle.shapes.specs.Limits.{panel as panelLimits};
 ghost use Rattle.route.specs.Answers.{rowsAnswer, wholeRefusal, rowAnswer, rowTo};
 
 pub mod inner; // inner.rt: the joins of a route, worked out once, and what is drawn of them
 
-use board::Listed;
 use inner::prepare;
 use inner::refused;
-use inner::row_board;
+use inner::row_of;
 use inner::rows_of;
 use inner::rows_refusal;
 use line_join::Join;
-use shapes::limits::CORNER;
-use shapes::refusals::ROW;
-use whole::inner::within;
+use shapes::limits;
+use shapes::limits::panel;
 
 /// The joins of a route, worked out once for all its rows: the first `count` of `joins`, one at each point; and whether every one
-/// of them has all its corners within 4,095.
+/// of them has all its corners within the limit.
 pub struct Joins {
     pub closed: bool,
     pub count: usize,
@@ -39,16 +38,24 @@ pub struct RowRange {
     pub last: i64,
 }
 
+/// What a row's listing answers: the number of runs and of their columns, or a refusal and zeros.
+pub struct Listing {
+    pub refusal: u64,
+    pub count: usize,
+    pub total: i64,
+}
+
 /// The rows of a route: the least and the greatest of its segments' bounding boxes; none where it has no segments. Refused with 1
 /// for an odd number of coordinates, 2 for more than 256 points or a closed route of one, 3 for a width outside 0 to 64, 4 for a
 /// coordinate beyond 511, 5 for a join with a corner beyond 4,095.
 pub fn rows(coordinates: &[i64], width: i64, closed: bool) -> RowRange
-    ensures { λ r. ⌜ r ≡ rowsAnswer closed (now (coordinates .entry)) width ⌝ }
+    ensures { λ r. ⌜ r ≡ rowsAnswer panelLimits closed (now (coordinates .entry)) width ⌝ }
 {
-    let route = prepare(coordinates, width, closed);
-    if 0 < route.refusal {
+    let route = prepare(coordinates, width, closed, panel());
+    let refusal = route.refusal;
+    if refusal != 0 {
         return RowRange {
-            refusal: route.refusal,
+            refusal,
             some: false,
             first: 0,
             last: 0,
@@ -60,10 +67,10 @@ pub fn rows(coordinates: &[i64], width: i64, closed: bool) -> RowRange
 /// What a route is refused with as a whole, or 0: 1 to 5 as `rows`, and then 8 if one of its rows needs more than 32 runs after some
 /// segment.
 pub fn refusal(coordinates: &[i64], width: i64, closed: bool) -> u64
-    ensures { λ r. ⌜ r ≡ wholeRefusal closed (now (coordinates .entry)) width ⌝ }
+    ensures { λ r. ⌜ r ≡ wholeRefusal panelLimits closed (now (coordinates .entry)) width ⌝ }
 {
-    let route = prepare(coordinates, width, closed);
-    if 0 < route.refusal {
+    let route = prepare(coordinates, width, closed, panel());
+    if route.refusal != 0 {
         return route.refusal;
     }
     rows_refusal(route.joins, rows_of(route.joins))
@@ -73,19 +80,12 @@ pub fn refusal(coordinates: &[i64], width: i64, closed: bool) -> u64
 /// of their columns; the rest of `out` keeps its content. Refused with 1 to 5 as `rows`, then with 6 for a row outside 4,095, then
 /// with 8 if the row needs more than 32 runs after some segment, or `out` has fewer than two numbers for each run. Refused, `out`
 /// is as it was.
-pub fn row(coordinates: &[i64], width: i64, closed: bool, row: i64, out: &mut [i64]) -> Listed
-    ensures { λ r. ⌜ (r ≡ rowAnswer closed (now (coordinates .entry)) width row (length (now (out .entry)))) × (now (out .exit) ≡ rowTo closed (now (coordinates .entry)) width row (now (out .entry))) ⌝ }
+pub fn row(coordinates: &[i64], width: i64, closed: bool, row: i64, out: &mut [i64]) -> Listing
+    ensures { λ r. ⌜ (r ≡ rowAnswer panelLimits closed (now (coordinates .entry)) width row (length (now (out .entry)))) × (now (out .exit) ≡ rowTo panelLimits closed (now (coordinates .entry)) width row (now (out .entry))) ⌝ }
 {
-    let route = prepare(coordinates, width, closed);
-    if 0 < route.refusal {
+    let route = prepare(coordinates, width, closed, panel());
+    if route.refusal != 0 {
         return refused(route.refusal);
     }
-    if within(row, CORNER) {
-        let answer = row_board(route.joins, row);
-        if 0 < answer.refusal {
-            return refused(answer.refusal);
-        }
-        return board::list(answer.board, &mut *out);
-    }
-    refused(ROW)
+    row_of(route.joins, row, limits::CORNER, &mut *out)
 }

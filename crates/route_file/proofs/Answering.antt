@@ -13,7 +13,7 @@ use Rattle.shapes.specs.Refusals.{formRefused, roomRefused}
 use Rattle.route_file.specs.declared.Pointed.{Pointed}
 use Rattle.route_file.specs.Numbers.{signedFrom}
 use Rattle.route_file.specs.Form.{routeCount, entryAt, isFormed}
-use Rattle.route_file.specs.Answers.{formRefusal, nothing, describedBy, described, coordinates, pointsRefusal, pointed, pointedTo}
+use Rattle.route_file.specs.Answers.{formRefusal, nothing, describedBy, described, pointsRefusal, pointed, pointedTo}
 use Rattle.route_file.proofs.Reading.{from-length}
 use Rattle.route_file.proofs.Laws.{coordinates-known, coordinates-length, coordinates-none}
 

@@ -1,80 +1,79 @@
--- The test of all joins of a route, from a place on. Assumes nothing.
+-- What joins ask is met, the test of all joins of a route, and how far the edges of an accepted route lie. Assumes nothing.
 use mathlib.Core.Path.{_≡_, refl}
-use mathlib.Core.Logic.{_↔_}
-use mathlib.Core.Bool.{Bool, true, false}
+use mathlib.Core.Logic.{_↔_, _≢_}
+use mathlib.Core.Bool.{Bool, true, false, cond}
 use mathlib.Core.List.{List}
-use Prim.Native.Nat.{ℕ, zero, suc, _+_, _-_, _≤_, _<_}
-use native.Mathlib.Nat.{zero-add}
-use native.Mathlib.Numerals.{add-one}
+use Prim.Native.Nat.{ℕ, _+_, _*_, _≤_, _<_}
 use native.Mathlib.Omega.{arith}
-use borrow.Author.Tests.{le-leb, lt-leb}
+use borrow.Author.Tests.{leb-true}
+use lib.Dec.{leb, lit≤}
 use lib.IntN.{ℤ}
-use Rattle.whole.proofs.Tests.{and-left, and-right}
-use Rattle.line_join.specs.declared.Join.{Join}
+use mir.Syntax.{w64}
+use mir.Val.{toZ, ofZ}
+use Rattle.whole.proofs.Bounds.{within-more}
+use Rattle.whole.proofs.Places.{all-exactly}
+use Rattle.shapes.specs.declared.Offset.{Offset}
+use Rattle.shapes.specs.Limits.{panel, widthLimit, lineLimit, strokeLimit}
+use Rattle.shapes.specs.Shape.{lineOf}
+use Rattle.shapes.proofs.Widths.{thin-back}
 use Rattle.line_join.specs.Caps.{JoinNear, isJoinNear}
-use Rattle.line_join.proofs.Room.{join-near-iff}
-use Rattle.coordinates.specs.Points.{pointCount}
-use Rattle.route_joins.specs.Joins.{joinAt, joinCount, nearFrom, areJoinsNear}
+use Rattle.extents.specs.Edges.{EdgesNear, extentsOf}
+use Rattle.line_join.proofs.Room.{join-near-iff, edges-within}
+use Rattle.coordinates.specs.Points.{pointAt, pointCount}
+use Rattle.coordinates.specs.Refusal.{AllWithin, Accepted}
+use Rattle.coordinates.proofs.Lists.{point-near}
+use Rattle.coordinates.proofs.Places.{after-inside}
+use Rattle.route_joins.specs.Joins.{joinAt, joinCount, areJoinsNear, endPlace, segmentsOf, segmentCount, Drawable}
 
-module _ (k : ℕ) (join : ℕ → Join) where
-  -- ---- in the form of a loop's test
+-- ---- what joins ask
 
-  pub near-end : (n i : ℕ) → n ≤ i → nearFrom k join i (n - i) ≡ true
-  unfolding nearFrom
-  near-end n i h = let none : n - i ≡ 0 = omega arith in rw none
+pub drawable-back : {cs : List ℤ} {w : ℤ} → Drawable cs w → Drawable cs (toZ w64 (ofZ w64 w))
+drawable-back d = record { near = d .near; thin = thin-back (d .thin); several = d .several }
 
-  from-more : (left i : ℕ) → 0 < left → isJoinNear k (join i) ≡ true → nearFrom k join i left ≡ nearFrom k join (i + 1) (left - 1)
-  unfolding nearFrom
-  from-more zero i h e = absurd (omega arith)
-  from-more (suc left) i h e = let less : suc left - 1 ≡ left = omega arith in rw (e, add-one i, less)
+pub all-more : {j k : ℕ} {cs : List ℤ} → AllWithin j cs → j ≤ k → AllWithin k cs
+all-more a le = record { within = λ i. within-more (a .within i) le }
 
-  pub near-more : (n i : ℕ) → i < n → isJoinNear k (join i) ≡ true → nearFrom k join i (n - i) ≡ nearFrom k join (i + 1) (n - (i + 1))
-  near-more n i h e = let less : n - (i + 1) ≡ n - i - 1 = omega arith in rw less (from-more (n - i) i (omega arith) e)
+counted-by : (n : ℕ) (t : Bool) {i : ℕ} → leb 2 n ≡ t → i < cond t n 0 → (2 ≤ n) × (i < n)
+counted-by n true e h = (leb-true 2 n e, h)
+counted-by n false e h = absurd (omega arith)
 
-  from-stop : (left i : ℕ) → 0 < left → isJoinNear k (join i) ≡ false → nearFrom k join i left ≡ false
-  unfolding nearFrom
-  from-stop zero i h e = absurd (omega arith)
-  from-stop (suc left) i h e = rw e
+-- at the place of a join there are two points or more
+pub join-inside : {i : ℕ} (cs : List ℤ) → i < joinCount cs → (2 ≤ pointCount cs) × (i < pointCount cs)
+unfolding joinCount
+join-inside cs h = counted-by (pointCount cs) (leb 2 (pointCount cs)) refl h
 
-  pub near-stop : (n i : ℕ) → i < n → isJoinNear k (join i) ≡ false → nearFrom k join i (n - i) ≡ false
-  near-stop n i h e = from-stop (n - i) i (omega arith) e
+-- a place of a segment is one of n points, and so is the place where it ends
+pub place-inside : {n k : ℕ} (closed : Bool) → k < segmentsOf closed n → (k < n) × (endPlace closed n k < n)
+unfolding segmentsOf endPlace
+place-inside true h = (h, after-inside h)
+place-inside false h = (omega arith, omega arith)
 
-  -- ---- what it says
+several-by : (n : ℕ) (closed : Bool) {k : ℕ} → (closed ≡ true → n ≢ 1) → k < segmentsOf closed n → 2 ≤ n
+unfolding segmentsOf
+several-by n true s h = omega (arith, s refl)
+several-by n false s h = omega arith
 
-  told-from : (left i d : ℕ) → nearFrom k join i left ≡ true → d < left → JoinNear k (join (i + d))
-  unfolding nearFrom
-  told-from zero i d e h = absurd (omega arith)
-  told-from (suc left) i zero e h = let same : i + 0 ≡ i = omega arith in rw same (join-near-iff k (join i) .0 (and-left (isJoinNear k (join i)) (nearFrom k join (suc i) left) e))
-  told-from (suc left) i (suc d) e h =
-      let on : i + suc d ≡ suc i + d = omega arith in
-      rw on (told-from left (suc i) d (and-right (isJoinNear k (join i)) (nearFrom k join (suc i) left) e) (omega arith))
+-- a list and a width that nothing refuses, and that have a segment, may be drawn
+pub accepted-drawable : {k i : ℕ} {closed : Bool} {cs : List ℤ} {w : ℤ} → k ≤ strokeLimit → Accepted k closed cs w → i < segmentCount closed cs → Drawable cs w
+unfolding segmentCount
+accepted-drawable {closed} {cs} le a h = record { near = all-more (a .near) le; thin = a .thin; several = several-by (pointCount cs) closed (a .several) h }
 
-  holds-from : (left i : ℕ) → ((d : ℕ) → d < left → JoinNear k (join (i + d))) → nearFrom k join i left ≡ true
-  unfolding nearFrom
-  holds-from zero i h = refl
-  holds-from (suc left) i h =
-      let here : i + 0 ≡ i = omega arith in
-      rw (join-near-iff k (join i) .1 (rw here at (h 0 (omega arith)))) (holds-from left (suc i) (λ d l. further i d (h (suc d) (omega arith))))
-    where
-      further : (i d : ℕ) → JoinNear k (join (i + suc d)) → JoinNear k (join (suc i + d))
-      further i d h = let on : suc i + d ≡ i + suc d = omega arith in rw on h
+-- ---- 5: the route passes exactly where every join of it is near
 
-  pub near-exactly : (n : ℕ) → (nearFrom k join 0 n ≡ true) ↔ ((i : ℕ) → i < n → JoinNear k (join i))
-  near-exactly n = (λ e i h. simp zero-add at (told-from n 0 i e h), λ h. holds-from n 0 (λ d l. simp zero-add (h d l)))
+pub joins-exactly : (k : ℕ) (closed : Bool) (cs : List ℤ) (w : ℤ) → (areJoinsNear k closed cs w ≡ true) ↔ ((i : ℕ) → i < joinCount cs → JoinNear k (joinAt closed cs w i))
+unfolding areJoinsNear
+joins-exactly k closed cs w =
+    let all = all-exactly (λ i. isJoinNear k (joinAt closed cs w i)) (joinCount cs) in
+    (λ e i h. join-near-iff k (joinAt closed cs w i) .0 (all .0 e i h), λ f. all .1 (λ i h. join-near-iff k (joinAt closed cs w i) .1 (f i h)))
 
--- ---- of a route
+-- ---- 01: edges of an accepted route stay within the crossing's limit
 
-module _ (k : ℕ) (closed : Bool) (cs : List ℤ) (w : ℤ) where
-  -- of one point or none there is nothing to test
-  pub joins-none : pointCount cs < 2 → areJoinsNear k closed cs w ≡ true
-  unfolding areJoinsNear joinCount nearFrom
-  joins-none h = rw (lt-leb 2 (pointCount cs) h)
+-- of a list within k, between any two of its points, at any offset
+pub route-edges : {j k : ℕ} {closed : Bool} {cs : List ℤ} {w : ℤ} → k ≤ lineLimit → k + (4 * widthLimit + 3) ≤ j → Accepted k closed cs w
+    → (a b : ℕ) (o : Offset) → EdgesNear j (extentsOf (lineOf (pointAt cs a) (pointAt cs b)) w o)
+route-edges fits le h a b o = edges-within o fits le (point-near (h .near) a) (point-near (h .near) b) (h .thin)
 
-  pub joins-all : {n : ℕ} → n ≡ pointCount cs → 2 ≤ n → nearFrom k (joinAt closed cs w) 0 (n - 0) ≡ areJoinsNear k closed cs w
-  unfolding areJoinsNear joinCount
-  joins-all {n} e h = let whole : n - 0 ≡ pointCount cs = omega (arith, e) in rw (whole, le-leb 2 (pointCount cs) (omega (arith, e)))
-
-  -- the route passes exactly where every join of it is near
-  pub joins-exactly : (areJoinsNear k closed cs w ≡ true) ↔ ((i : ℕ) → i < joinCount cs → JoinNear k (joinAt closed cs w i))
-  unfolding areJoinsNear
-  joins-exactly = near-exactly k (joinAt closed cs w) (joinCount cs)
+-- at the limits of a panel
+pub panel-edges : {closed : Bool} {cs : List ℤ} {w : ℤ} → Accepted (panel .point) closed cs w
+    → (a b : ℕ) (o : Offset) → EdgesNear (panel .crossing) (extentsOf (lineOf (pointAt cs a) (pointAt cs b)) w o)
+panel-edges h = route-edges (lit≤ tt) (lit≤ tt) h

@@ -2,69 +2,79 @@
 use mathlib.Core.Path.{_≡_, refl, sym, ap, _∙_}
 use mathlib.Core.Logic.{_↔_}
 use mathlib.Core.Bool.{Bool, true, false, cond}
+use mathlib.Core.List.{List}
 use Prim.Native.Nat.{ℕ, zero, suc, _+_, _≤_, _<_}
 use native.Mathlib.Nat.{add-zero}
 use native.Mathlib.Numerals.{add-one}
 use native.Mathlib.Omega.{arith}
 use borrow.Author.Tests.{lt-ltb, le-ltb, eq-eqb, ne-eqb}
-use Rattle.shapes.specs.Limits.{cornerLimit}
 use lib.Dec.{eqb, ltb}
-use Rattle.whole.proofs.Tests.{untrue, ltb-iff, eqb-iff, never, good-first, good-later}
+use lib.IntN.{ℤ}
+use Rattle.whole.proofs.Tests.{else-false, ltb-iff, eqb-iff, never, good-first, good-later}
 use Rattle.shapes.specs.Refusals.{cornerRefused}
 use Rattle.thick_segment.specs.declared.Segment.{Segment}
+use Rattle.coordinates.specs.Refusal.{routeRefusal, Accepted}
+use Rattle.coordinates.proofs.Laws.{accepted-exactly, refused-most}
+use Rattle.shapes.specs.declared.limits.Limits.{Limits}
+use Rattle.shapes.specs.declared.Offset.{Offset}
+use Rattle.route_joins.specs.Joins.{segmentCount, segmentOf}
 use Rattle.thick_segment.specs.Segments.{SegmentNear, isSegmentNear}
 use Rattle.thick_segment.proofs.Refused.{segment-near-iff}
+use Rattle.line_join.specs.declared.Join.{Join}
+use Rattle.line_join.specs.declared.Joined.the-variants.{Made}
+use Rattle.line_join.specs.Answers.{joinValues}
+use Rattle.line_join.proofs.Answers.{join-values-tell}
 use Rattle.route_joins.specs.declared.Step.{Step}
 use Rattle.route_joins.specs.declared.Step.the-variants.{Drawn, End, Refused}
-use Rattle.route_joins.specs.Steps.{StepValues, stepValues, checked, stepAt, placeFrom, afterSteps, SegmentBySegment}
+use Rattle.route_joins.specs.Steps.{StepValues, stepValues, checked, stepAt, routeStep, placeFrom, afterSteps, SegmentBySegment}
 
 -- ---- one step: `refusal` is that of the list and the width
 
-module _ (refusal count : ℕ) (segment : ℕ → Segment) (place : ℕ) where
-  pub step-refused : 0 < refusal → stepAt refusal count segment place ≡ stepValues (Refused refusal)
+module _ (k refusal count : ℕ) (segment : ℕ → Segment) (place : ℕ) where
+  pub step-refused : 0 < refusal → stepAt k refusal count segment place ≡ stepValues (Refused refusal)
   unfolding stepAt
   step-refused h = rw (ne-eqb refusal 0 (λ e. omega (arith, e)))
 
   module _ (none : refusal ≡ 0) where
-    pub step-end : count ≤ place → stepAt refusal count segment place ≡ stepValues End
+    pub step-end : count ≤ place → stepAt k refusal count segment place ≡ stepValues End
     unfolding stepAt
     step-end h = rw (eq-eqb refusal 0 none, le-ltb place count h)
 
     module _ (more : place < count) where
-      pub step-drawn : isSegmentNear cornerLimit (segment place) ≡ true → stepAt refusal count segment place ≡ stepValues (Drawn (segment place))
+      pub step-drawn : isSegmentNear k (segment place) ≡ true → stepAt k refusal count segment place ≡ stepValues (Drawn (segment place))
       unfolding stepAt checked
       step-drawn e = rw (eq-eqb refusal 0 none, lt-ltb place count more, e)
 
-      pub step-corner : isSegmentNear cornerLimit (segment place) ≡ false → stepAt refusal count segment place ≡ stepValues (Refused cornerRefused)
+      pub step-corner : isSegmentNear k (segment place) ≡ false → stepAt k refusal count segment place ≡ stepValues (Refused cornerRefused)
       unfolding stepAt checked
       step-corner e = rw (eq-eqb refusal 0 none, lt-ltb place count more, e)
 
 -- where an answer leaves the walk
-moved-on : {v : StepValues} {s : Segment} → v ≡ stepValues (Drawn s) → (place : ℕ) → placeFrom v place ≡ place + 1
-unfolding placeFrom
-moved-on e place = rw e
+moved-on : {v : StepValues} (s : Segment) → v ≡ stepValues (Drawn s) → (place : ℕ) → placeFrom v place ≡ place + 1
+unfolding placeFrom stepValues
+moved-on s e place = rw e
 
-stayed : {v : StepValues} {n : ℕ} → v ≡ stepValues (Refused n) → (place : ℕ) → placeFrom v place ≡ place
-unfolding placeFrom
-stayed e place = rw e
+stayed : {v : StepValues} (n : ℕ) → v ≡ stepValues (Refused n) → (place : ℕ) → placeFrom v place ≡ place
+unfolding placeFrom stepValues
+stayed n e place = rw e
 
 ended : {v : StepValues} → v ≡ stepValues End → (place : ℕ) → placeFrom v place ≡ place
-unfolding placeFrom
+unfolding placeFrom stepValues
 ended e place = rw e
 
 -- ---- many steps of a walk that its list and width do not refuse: `at p` is the walk at place p
 
-module _ {W : Type 0} (answer : W → StepValues) (after : W → W) (at : ℕ → W) (count : ℕ) (segment : ℕ → Segment)
-    (answers : (p : ℕ) → answer (at p) ≡ stepAt 0 count segment p)
-    (moves : (p : ℕ) → after (at p) ≡ at (placeFrom (stepAt 0 count segment p) p)) where
+module _ {W : Type 0} (k : ℕ) (answer : W → StepValues) (after : W → W) (at : ℕ → W) (count : ℕ) (segment : ℕ → Segment)
+    (answers : (p : ℕ) → answer (at p) ≡ stepAt k 0 count segment p)
+    (moves : (p : ℕ) → after (at p) ≡ at (placeFrom (stepAt k 0 count segment p) p)) where
   abbrev walk : ℕ → W
   walk = afterSteps after (at 0)
 
   abbrev near : ℕ → Type 0
-  near j = SegmentNear cornerLimit (segment j)
+  near j = SegmentNear k (segment j)
 
-  here : {j : ℕ} → j < count → near j → stepAt 0 count segment j ≡ stepValues (Drawn (segment j))
-  here {j} h n = step-drawn 0 count segment j refl h (segment-near-iff cornerLimit (segment j) .1 n)
+  here : {j : ℕ} → j < count → near j → stepAt k 0 count segment j ≡ stepValues (Drawn (segment j))
+  here {j} h n = step-drawn k 0 count segment j refl h (segment-near-iff k (segment j) .1 n)
 
   -- as long as the segments are near, the place after n steps is n
   walked : (n : ℕ) → n ≤ count → ((j : ℕ) → j < n → near j) → walk n ≡ at n
@@ -72,7 +82,7 @@ module _ {W : Type 0} (answer : W → StepValues) (after : W → W) (at : ℕ �
   walked zero h f = refl
   walked (suc n) h f =
       rw (walked n (omega arith) (λ j l. f j (omega arith)))
-      (moves n ∙ ap at (moved-on (here (omega arith) (f n (omega arith))) n ∙ add-one n))
+      (moves n ∙ ap at (moved-on (segment n) (here (omega arith) (f n (omega arith))) n ∙ add-one n))
 
   -- a walk that has come to a place where a step does not move stays there for ever
   stays : (p : ℕ) → after (at p) ≡ at p → (m n : ℕ) → walk n ≡ at p → walk (n + m) ≡ at p
@@ -83,27 +93,27 @@ module _ {W : Type 0} (answer : W → StepValues) (after : W → W) (at : ℕ �
       rw (on, stays p e m n h) e
 
   -- what a step answers at a place that the walk has come to
-  answered : {p : ℕ} {v : StepValues} (n : ℕ) → walk n ≡ at p → stepAt 0 count segment p ≡ v → answer (walk n) ≡ v
+  answered : {p : ℕ} {v : StepValues} (n : ℕ) → walk n ≡ at p → stepAt k 0 count segment p ≡ v → answer (walk n) ≡ v
   answered {p} n h e = ap answer h ∙ answers p ∙ e
 
-  pub segments-in-turn : {begun : W} → begun ≡ at 0 → SegmentBySegment answer after begun count segment
+  pub segments-in-turn : {begun : W} → begun ≡ at 0 → SegmentBySegment k answer after begun count segment
   segments-in-turn e =
       rw e record {
-        drawn = λ k h f. answered k (walked k (omega arith) (λ j l. f j (omega arith))) (here h (f k (omega arith)));
+        drawn = λ i h f. answered i (walked i (omega arith) (λ j l. f j (omega arith))) (here h (f i (omega arith)));
         ends = λ f m.
-            let over = step-end 0 count segment count refl (omega arith) in
+            let over = step-end k 0 count segment count refl (omega arith) in
             answered (count + m) (stays count (moves count ∙ ap at (ended over count)) m count (walked count (omega arith) f)) over;
-        refuses = λ k h f far m.
-            let over = step-corner 0 count segment k refl h (untrue (isSegmentNear cornerLimit (segment k)) (λ e. far (segment-near-iff cornerLimit (segment k) .0 e))) in
-            answered (k + m) (stays k (moves k ∙ ap at (stayed over k)) m k (walked k (omega arith) f)) over;
+        refuses = λ i h f far m.
+            let over = step-corner k 0 count segment i refl h (else-false (isSegmentNear k (segment i)) (λ e. far (segment-near-iff k (segment i) .0 e))) in
+            answered (i + m) (stays i (moves i ∙ ap at (stayed 5 over i)) m i (walked i (omega arith) f)) over;
       }
 
 -- ---- refusals: those of the list and the width, and then 5
 
-module _ (refusal count : ℕ) (segment : ℕ → Segment) (place : ℕ) where
-  chain : stepAt refusal count segment place .refusal ≡ cond (eqb refusal 0) (cond (ltb place count) (cond (isSegmentNear cornerLimit (segment place)) 0 5) 0) refusal
-  unfolding stepAt checked
-  chain = by (eqb refusal 0) (ltb place count) (isSegmentNear cornerLimit (segment place))
+module _ (k refusal count : ℕ) (segment : ℕ → Segment) (place : ℕ) where
+  chain : stepAt k refusal count segment place .refusal ≡ cond (eqb refusal 0) (cond (ltb place count) (cond (isSegmentNear k (segment place)) 0 5) 0) refusal
+  unfolding stepAt checked stepValues
+  chain = by (eqb refusal 0) (ltb place count) (isSegmentNear k (segment place))
     where
       by : (t u v : Bool)
           → cond t (cond u (cond v (stepValues (Drawn (segment place))) (stepValues (Refused 5))) (stepValues End)) (stepValues (Refused refusal)) .refusal ≡ cond t (cond u (cond v 0 5) 0) refusal
@@ -113,23 +123,48 @@ module _ (refusal count : ℕ) (segment : ℕ → Segment) (place : ℕ) where
       by false u v = refl
 
   -- 5 exactly when nothing was refused before, and a join of the segment at the place has a corner beyond the limit
-  pub five-exactly : (refusal ≡ 5 → ⊥) → (stepAt refusal count segment place .refusal ≡ 5) ↔ ((refusal ≡ 0) × ((place < count) × (SegmentNear cornerLimit (segment place) → ⊥)))
+  pub five-exactly : (refusal ≡ 5 → ⊥) → (stepAt k refusal count segment place .refusal ≡ 5) ↔ ((refusal ≡ 0) × ((place < count) × (SegmentNear k (segment place) → ⊥)))
   five-exactly other =
       rw chain
       (good-later (eqb refusal 0) (eqb-iff refusal 0) other
       (good-later (ltb place count) (ltb-iff place count) (λ e. omega arith)
-      (good-first (isSegmentNear cornerLimit (segment place)) (segment-near-iff cornerLimit (segment place)) (λ e. omega arith))))
+      (good-first (isSegmentNear k (segment place)) (segment-near-iff k (segment place)) (λ e. omega arith))))
 
   -- any other number exactly when the list or the width is refused with it
-  pub others-exactly : {n : ℕ} → 0 < n → (n ≡ 5 → ⊥) → (stepAt refusal count segment place .refusal ≡ n) ↔ (refusal ≡ n)
+  pub others-exactly : {n : ℕ} → 0 < n → (n ≡ 5 → ⊥) → (stepAt k refusal count segment place .refusal ≡ n) ↔ (refusal ≡ n)
   others-exactly {n} some other = rw chain (by (eqb refusal 0) refl)
     where
-      by : (t : Bool) → eqb refusal 0 ≡ t → (cond t (cond (ltb place count) (cond (isSegmentNear cornerLimit (segment place)) 0 5) 0) refusal ≡ n) ↔ (refusal ≡ n)
+      by : (t : Bool) → eqb refusal 0 ≡ t → (cond t (cond (ltb place count) (cond (isSegmentNear k (segment place)) 0 5) 0) refusal ≡ n) ↔ (refusal ≡ n)
       by true e = (
-        λ h. absurd (never (ltb place count) (never (isSegmentNear cornerLimit (segment place)) (λ z. omega (arith, z)) (λ z. other (sym z))) (λ z. omega (arith, z)) h),
+        λ h. absurd (never (ltb place count) (never (isSegmentNear k (segment place)) (λ z. omega (arith, z)) (λ z. other (sym z))) (λ z. omega (arith, z)) h),
         λ h. let none = eqb-iff refusal 0 .0 e in absurd (omega (arith, none, h)),
       )
       by false e = (λ h. h, λ h. h)
+
+-- ---- a walk along a route, open or closed
+
+module _ (limits : Limits) (closed : Bool) (cs : List ℤ) (w : ℤ) (o : Offset) where
+  abbrev far : ℕ → Type 0
+  far place = SegmentNear (limits .corner) (segmentOf closed cs w o place) → ⊥
+
+  -- 1 to 4 exactly when the list and the width are refused with it, then 5 exactly when a join of the segment at the place has a corner
+  -- beyond the limit
+  pub route-five : (place : ℕ) → (routeStep limits closed cs w o place .refusal ≡ 5) ↔ ((routeRefusal (limits .point) closed cs w ≡ 0) × ((place < segmentCount closed cs) × far place))
+  unfolding routeStep
+  route-five place = five-exactly (limits .corner) _ _ _ place (refused-most (limits .point) closed cs w (omega arith))
+
+  pub route-other : (place : ℕ) {n : ℕ} → 0 < n → (n ≡ 5 → ⊥) → (routeStep limits closed cs w o place .refusal ≡ n) ↔ (routeRefusal (limits .point) closed cs w ≡ n)
+  unfolding routeStep
+  route-other place = others-exactly (limits .corner) _ _ _ place
+
+  -- segment by segment, where `at p` is the walk at place p
+  pub route-in-turn : {W : Type 0} {answer : W → StepValues} {after : W → W} {begun : W} (at : ℕ → W) → Accepted (limits .point) closed cs w
+      → ((p : ℕ) → answer (at p) ≡ routeStep limits closed cs w o p) → ((p : ℕ) → after (at p) ≡ at (placeFrom (routeStep limits closed cs w o p) p)) → begun ≡ at 0
+      → SegmentBySegment (limits .corner) answer after begun (segmentCount closed cs) (segmentOf closed cs w o)
+  unfolding routeStep
+  route-in-turn at accepted answers moves =
+      let none = accepted-exactly (limits .point) closed cs w .1 accepted in
+      segments-in-turn (limits .corner) _ _ at (segmentCount closed cs) (segmentOf closed cs w o) (λ p. rw none at (answers p)) (λ p. rw none at (moves p))
 
 -- an answer that is chosen by a refusal tells that refusal
 pub refusal-told : {A : Type 0} (told : A → ℕ) (n : ℕ) {answer refused : A} → told answer ≡ 0 → told refused ≡ n → told (cond (eqb n 0) answer refused) ≡ n
@@ -140,13 +175,21 @@ refusal-told {A} told n {answer} {refused} none some = by (eqb n 0) refl
     by false e = some
 
 -- the values tell answers apart
-abbrev back : StepValues → Step
-back v = cond (eqb (v .found) 0) (Refused (v .refusal)) (cond (eqb (v .found) 1) (Drawn (v .segment)) End)
+same-join : (a b : Join) → joinValues (Made a) ≡ joinValues (Made b) → a ≡ b
+same-join a b e = cc (join-values-tell (Made a) (Made b) e)
 
-back-values : (s : Step) → back (stepValues s) ≡ s
-back-values (Drawn s) = refl
-back-values End = refl
-back-values (Refused n) = refl
+same-segment : (s t : Segment) → s .start ≡ t .start → s .end ≡ t .end → s ≡ t
+same-segment s t p q = rw (← p, ← q) refl
 
 pub values-tell : (s t : Step) → stepValues s ≡ stepValues t → s ≡ t
-values-tell s t e = sym (back-values s) ∙ ap back e ∙ back-values t
+unfolding stepValues
+values-tell (Drawn s) (Drawn t) e =
+    ap Drawn (same-segment s t (same-join (s .start) (t .start) (ap (λ v. v .start) e)) (same-join (s .end) (t .end) (ap (λ v. v .end) e)))
+values-tell (Drawn s) End e = absurd (omega (arith, ap (λ v. v .found) e))
+values-tell (Drawn s) (Refused n) e = absurd (omega (arith, ap (λ v. v .found) e))
+values-tell End (Drawn t) e = absurd (omega (arith, ap (λ v. v .found) e))
+values-tell End End e = refl
+values-tell End (Refused n) e = absurd (omega (arith, ap (λ v. v .found) e))
+values-tell (Refused m) (Drawn t) e = absurd (omega (arith, ap (λ v. v .found) e))
+values-tell (Refused m) End e = absurd (omega (arith, ap (λ v. v .found) e))
+values-tell (Refused m) (Refused n) e = ap Refused (ap (λ v. v .refusal) e)

@@ -7,28 +7,14 @@ use lib.IntN.{ℤ, pos, _+ℤ_, _-ℤ_}
 use lib.Signed.{ltZ, leZ}
 use Rattle.whole.specs.Number.{eqZ}
 use Rattle.whole.proofs.Linear.{sum, diff}
-use Rattle.whole.proofs.Machine.{eqZ-refl}
-use Rattle.whole.proofs.Spans.{ordered, eqZ-true, eqZ-false}
+use Rattle.whole.proofs.Orders.{eqZ-refl, eqZ-no, ordered, eqZ-true, eqZ-false}
 use Rattle.shapes.specs.declared.Point.{Point}
 use Rattle.shapes.specs.declared.Span.{Span}
-use Rattle.scanline.specs.Spans.{Covers, isEmpty, extended}
+use Rattle.shapes.specs.Spans.{spanOf, Covers, isEmpty}
+use Rattle.shapes.proofs.Columns.{covers-some, covers-first, covers-last}
+use Rattle.scanline.specs.Spans.{extended}
 use Rattle.scanline.specs.Meeting.{seen, seenAll}
 use Rattle.scanline.specs.Words.{Column, before, met-at, End, kept, came, Least}
-use Rattle.scanline.proofs.Steps.{seen-off}
-
--- ---- a span that is not empty
-
-pub covers-some : (s : Span) (c : ℤ) → Covers s c → isEmpty s ≡ false
-unfolding isEmpty
-covers-some s c h = omega ordered
-
-pub covers-first : (s : Span) → isEmpty s ≡ false → Covers s (s .start)
-unfolding isEmpty
-covers-first s e = omega ordered
-
-pub covers-last : (s : Span) → isEmpty s ≡ false → Covers s (s .end -ℤ pos 1)
-unfolding isEmpty
-covers-last s e = omega (ordered, diff (s .end) (pos 1))
 
 -- ---- one column more
 
@@ -63,7 +49,12 @@ extends s x = extends-by s x (leZ (s .end) (s .start)) (ltZ x (s .start)) (leZ (
 
 -- ---- one point more
 
-seen-on : (s : Span) (q : Point) → q .y ≡ s .row → seen s q ≡ extended s (q .x)
+-- a point that is not on the row changes nothing
+pub seen-off : (s : Span) (q : Point) → (q .y ≡ s .row → ⊥) → seen s q ≡ s
+unfolding seen
+seen-off s q off = rw (eqZ-no (q .y) (s .row) off)
+
+pub seen-on : (s : Span) (q : Point) → q .y ≡ s .row → seen s q ≡ extended s (q .x)
 unfolding seen
 seen-on s q e = rw (e, eqZ-refl (s .row))
 
@@ -171,3 +162,37 @@ seen-none s [] off = refl
 seen-none s (q ∷ ps) off =
     let here = seen-off s q (off q (List·Memᴰ·head refl)) in
     ap (λ r. seenAll r ps) here ∙ seen-none s ps (λ p m. off p (List·Memᴰ·tail m))
+
+-- ---- fewer points that come to the same
+
+span-is : {r : Span} {row start end : ℤ} → r .row ≡ row → r .start ≡ start → r .end ≡ end → r ≡ spanOf row start end
+span-is a b c = rw (← a, ← b, ← c) refl
+
+-- spans of one row that cover the same columns, and one at least, are the same
+spans-same : (r t : Span) (c : ℤ) → r .row ≡ t .row → Covers r c → ((c : ℤ) → Covers r c → Covers t c) → ((c : ℤ) → Covers t c → Covers r c) → r ≡ t
+spans-same r t c row some to back =
+    let e = covers-some r c some in
+    let f = covers-some t c (to c some) in
+    let a = to (r .start) (covers-first r e) in
+    let b = to (r .end -ℤ pos 1) (covers-last r e) in
+    let x = back (t .start) (covers-first t f) in
+    let y = back (t .end -ℤ pos 1) (covers-last t f) in
+    let last = diff (r .end) (pos 1) in
+    let final = diff (t .end) (pos 1) in
+    span-is row (omega ordered) (omega ordered)
+
+-- some of the points do, where what they come to covers the columns of all on the row
+pub seen-same : (s : Span) (ps qs : List Point) (c : ℤ) → Covers (seenAll s qs) c → ((q : Point) → List·Memᴰ q qs → List·Memᴰ q ps) → ((q : Point) → List·Memᴰ q ps → q .y ≡ s .row → Covers (seenAll s qs) (q .x)) → seenAll s ps ≡ seenAll s qs
+seen-same s ps qs c some among all =
+    let p = seen-least s ps in
+    let q = seen-least s qs in
+    let back = q .least (seenAll s ps) (λ c w. p .holds c (grown w)) in
+    spans-same (seenAll s ps) (seenAll s qs) c (p .row ∙ sym (q .row)) (back c some) (p .least (seenAll s qs) (λ c w. held w)) back
+  where
+    grown : {c : ℤ} → Column s qs c → Column s ps c
+    grown (before h) = before h
+    grown (met-at q m on at) = met-at q (among q m) on at
+
+    held : {c : ℤ} → Column s ps c → Covers (seenAll s qs) c
+    held {c} (before h) = seen-least s qs .holds c (before h)
+    held (met-at q m on at) = rw (← at) (all q m on)

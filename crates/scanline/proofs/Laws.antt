@@ -4,37 +4,28 @@ use mathlib.Core.Logic.{_⊎_, _↔_, inl, inr, ⊎-elim}
 use mathlib.Core.Bool.{Bool, true, false, _||_}
 use mathlib.Core.List.{List, List·Memᴰ, Memᴰ·cast}
 use Prim.Native.Nat.{ℕ}
-use lib.Dec.{eqb}
 use lib.IntN.{ℤ, pos, negℤ, _+ℤ_, _-ℤ_}
 use lib.Signed.{ltZ, leZ}
-use Rattle.whole.specs.Number.{Within, isWithin, eqZ, lesser, greater}
-use Rattle.whole.proofs.Linear.{linear, sum, diff}
-use Rattle.whole.proofs.Laws.{lesser-le, le-greater, true-within, within-true, within-iff}
-use Rattle.whole.proofs.Machine.{eqZ-refl}
-use Rattle.whole.proofs.Spans.{ordered, clash, else-true, else-false, eqZ-true, within-low, within-high, within-of, within-lesser, within-greater, lesser-other, greater-other}
-use Rattle.whole.proofs.Tests.{and-left, and-right, eqb-iff, Chosen, chosen}
+use Rattle.whole.specs.Number.{Within}
+use Rattle.whole.proofs.Linear.{sum, diff}
+use Rattle.whole.proofs.Laws.{lesser-le, le-greater}
+use Rattle.whole.proofs.Orders.{ordered}
+use Rattle.whole.proofs.Tests.{clash, else-true, else-false, and-left, and-right}
+use Rattle.whole.proofs.Spans.{within-low, within-high, within-of, lesser-other, greater-other}
 use Rattle.shapes.specs.declared.Point.{Point}
 use Rattle.shapes.specs.declared.Line.{Line}
 use Rattle.shapes.specs.declared.Span.{Span}
-use Rattle.shapes.specs.Limits.{cornerLimit}
-use Rattle.shapes.specs.Shape.{pointOf, LineNear, isLineNear}
-use Rattle.shapes.proofs.Laws.{line-near-iff}
-use Rattle.scanline.specs.Spans.{spanOf, Covers, isEmpty, isSound, extended, touches, inRange, printedTouches, join, newSpan, tryExtended, tryTaken}
-use Rattle.scanline.specs.Points.{linePoints}
+use Rattle.shapes.specs.Shape.{pointOf, LineNear}
+use Rattle.shapes.proofs.Columns.{covers-some, covers-first}
+use Rattle.shapes.specs.Spans.{spanOf, Covers, isEmpty, Sound}
+use Rattle.scanline.specs.Spans.{touches, inRange, printedTouches, join, newSpan, tryExtended, tryTaken}
+use Rattle.bresenham.specs.Points.{linePoints}
+use Rattle.bresenham.proofs.Lines.{line-columns, line-rows}
 use Rattle.scanline.specs.Meeting.{met}
-use Rattle.scanline.specs.Words.{Sound, Apart, Column, before, met-at, End, kept, came, Least}
-use Rattle.scanline.specs.Answers.{columnRefusal, orElse, spanRefusal, extendRefusal, meetRefusal, joinRefusal}
-use Rattle.scanline.specs.Answers.{spanned, freshAnswer, extendAnswer, meetAnswer, tryExtendAnswer, tryTakeAnswer}
-use Rattle.scanline.proofs.Folds.{covers-some, covers-first, covers-last, seen-least, seen-none}
-use Rattle.scanline.proofs.Lines.{Between, nth, x-between, y-between, met-contiguous}
-
--- ---- a line's points lie in the box of its ends
-
-pub line-columns : (l : Line) {q : Point} → List·Memᴰ q (linePoints l) → Between (l .start .x) (l .end .x) (q .x)
-line-columns l m = let i = nth m in rw (i .is) (x-between l (i .index) (i .small))
-
-pub line-rows : (l : Line) {q : Point} → List·Memᴰ q (linePoints l) → Between (l .start .y) (l .end .y) (q .y)
-line-rows l m = let i = nth m in rw (i .is) (y-between l (i .index) (i .small))
+use Rattle.scanline.specs.Rows.{hasRow}
+use Rattle.scanline.specs.Words.{Apart, Column, before, met-at, End, kept, came, Least}
+use Rattle.scanline.proofs.Folds.{seen-least, seen-none}
+use Rattle.scanline.proofs.Rows.{row-exactly, ends-within, met-contiguous}
 
 -- ---- meeting a line
 
@@ -44,7 +35,7 @@ pub met-least : (s : Span) (l : Line) → Least s (linePoints l) (met s l)
 unfolding met
 met-least s l = seen-least s (linePoints l)
 
--- those columns are contiguous (`met-contiguous`, in Lines.antt), so an empty span covers afterwards just the columns of the line's points on its row
+-- those columns are contiguous (`met-contiguous`, in Rows.antt), so an empty span covers afterwards just the columns of the line's points on its row
 point-of : {s : Span} {ps : List Point} {e c : ℤ} → isEmpty s ≡ true → End s e ps c → List·Memᴰ (pointOf c (s .row)) ps
 point-of none (kept some is) = absurd (clash none some)
 point-of none (came q m on at) = Memᴰ·cast (rw (← at, ← on)) m
@@ -76,11 +67,8 @@ met-empty s l =
     )
 
 -- a row outside the line's rows
-pub met-above : (s : Span) (l : Line) → ltZ (s .row) (lesser (l .start .y) (l .end .y)) ≡ true → met s l ≡ s
-met-above s l e = met-none s l (λ q m on. omega (linear, line-rows l m .low))
-
-pub met-below : (s : Span) (l : Line) → ltZ (greater (l .start .y) (l .end .y)) (s .row) ≡ true → met s l ≡ s
-met-below s l e = met-none s l (λ q m on. omega (linear, line-rows l m .high))
+pub met-off : (s : Span) (l : Line) → hasRow l (s .row) ≡ false → met s l ≡ s
+met-off s l e = met-none s l (λ q m on. clash (row-exactly l (s .row) .1 (rw (← on) (line-rows l m))) e)
 
 -- ---- columns from -k to k
 
@@ -94,10 +82,6 @@ box-covers {k} {c} w = omega (ordered, within-low w, within-high w, sum (pos k) 
 covers-box : {k : ℕ} {c : ℤ} → Covers (box k) c → Within c k
 covers-box {k} {c} h = within-of (h .from) (omega (ordered, sum (pos k) (pos 1)))
 
-ends-within : {k : ℕ} {a b z : ℤ} → Within a k → Within b k → Between a b z → Within z k
-ends-within v w h =
-    within-of (omega (linear, within-low (within-lesser v w), h .low)) (omega (linear, within-high (within-greater v w), h .high))
-
 -- a line within k keeps the span within k
 pub met-sound : {k : ℕ} (s : Span) (l : Line) → LineNear k l → Sound k s → Sound k (met s l)
 met-sound {k} s l near sound = λ c h. covers-box (met-least s l .least (box k) (λ c h. box-covers (column-within h)) c h)
@@ -105,22 +89,6 @@ met-sound {k} s l near sound = λ c h. covers-box (met-least s l .least (box k) 
     column-within : {c : ℤ} → Column s (linePoints l) c → Within c k
     column-within {c} (before h) = sound c h
     column-within (met-at q m on at) = rw (← at) (ends-within (near .start-near .x-near) (near .end-near .x-near) (line-columns l m))
-
--- the test for that
-sound-by : (k : ℕ) (s : Span) (t : Bool) → isEmpty s ≡ t → (isSound k s ≡ true) ↔ Sound k s
-unfolding isSound
-sound-by k s true e = (λ h c w. absurd (clash e (covers-some s c w)), λ h. rw e)
-sound-by k s false e = (
-  λ h c w.
-      let both = rw e at h in
-      let first = true-within k (s .start) (and-left (isWithin k (s .start)) (isWithin k (s .end -ℤ pos 1)) both) in
-      let last = true-within k (s .end -ℤ pos 1) (and-right (isWithin k (s .start)) (isWithin k (s .end -ℤ pos 1)) both) in
-      within-of (omega (ordered, within-low first)) (omega (ordered, within-high last, diff (s .end) (pos 1))),
-  λ h. simp (e, within-true (h (s .start) (covers-first s e)), within-true (h (s .end -ℤ pos 1) (covers-last s e))),
-)
-
-pub sound-exactly : (k : ℕ) (s : Span) → (isSound k s ≡ true) ↔ Sound k s
-sound-exactly k s = sound-by k s (isEmpty s) refl
 
 -- ---- try_extend
 
@@ -248,57 +216,3 @@ once-by s false e = rw (take-some s e, take-none (newSpan (s .row)) refl)
 -- what is left is empty
 pub take-once : (s : Span) → tryTaken (tryTaken s .rest) .taken ≡ false
 take-once s = once-by s (isEmpty s) refl
-
--- ---- refusals, in 01's order: each exactly when
-
--- 7: a column of the span is outside, or the column to be added is
-pub span-seven : (s : Span) → Chosen (Sound cornerLimit s) (columnRefusal (isSound cornerLimit s)) 0 7
-span-seven s = chosen (isSound cornerLimit s) 0 7 (sound-exactly cornerLimit s)
-
-pub column-seven : (c : ℤ) → Chosen (Within c cornerLimit) (columnRefusal (isWithin cornerLimit c)) 0 7
-column-seven c = chosen (isWithin cornerLimit c) 0 7 (within-iff cornerLimit c)
-
--- 6 before it: the row is outside
-pub span-six : (s : Span) → Chosen (Within (s .row) cornerLimit) (spanRefusal s) (columnRefusal (isSound cornerLimit s)) 6
-unfolding spanRefusal
-span-six s = chosen (isWithin cornerLimit (s .row)) _ 6 (within-iff cornerLimit (s .row))
-
--- 4 before them: a coordinate of the line is beyond 4,095
-pub meet-four : (s : Span) (l : Line) → Chosen (LineNear cornerLimit l) (meetRefusal s l) (spanRefusal s) 4
-unfolding meetRefusal
-meet-four s l = chosen (isLineNear cornerLimit l) _ 4 (line-near-iff cornerLimit l)
-
--- a column to be added is looked at last
-pub extend-next : (s : Span) (c : ℤ) → Chosen (spanRefusal s ≡ 0) (extendRefusal s c) (columnRefusal (isWithin cornerLimit c)) (spanRefusal s)
-unfolding extendRefusal
-extend-next s c = chosen (eqb (spanRefusal s) 0) _ (spanRefusal s) (eqb-iff (spanRefusal s) 0)
-
--- 6 also where two rows differ; then the span, then the other's columns
-pub join-six : (s o : Span) → Chosen (s .row ≡ o .row) (joinRefusal s o) (orElse (spanRefusal s) (columnRefusal (isSound cornerLimit o))) 6
-unfolding joinRefusal
-join-six s o = chosen (eqZ (s .row) (o .row)) _ 6 (eqZ-true (s .row) (o .row), λ e. rw e (eqZ-refl (o .row)))
-
-pub join-next : (s o : Span) → Chosen (spanRefusal s ≡ 0) (orElse (spanRefusal s) (columnRefusal (isSound cornerLimit o))) (columnRefusal (isSound cornerLimit o)) (spanRefusal s)
-join-next s o = chosen (eqb (spanRefusal s) 0) _ (spanRefusal s) (eqb-iff (spanRefusal s) 0)
-
--- ---- the entries: the answer where there is no refusal, else the refusal with the span handed in as it was
-
-pub fresh-chosen : (row : ℤ) → Chosen (Within row cornerLimit) (freshAnswer row) (spanned 0 (newSpan row)) (spanned 6 (newSpan (pos 0)))
-unfolding freshAnswer
-fresh-chosen row = chosen (isWithin cornerLimit row) _ _ (within-iff cornerLimit row)
-
-pub extend-chosen : (s : Span) (c : ℤ) → Chosen (extendRefusal s c ≡ 0) (extendAnswer s c) (spanned 0 (extended s c)) (spanned (extendRefusal s c) s)
-unfolding extendAnswer
-extend-chosen s c = chosen (eqb (extendRefusal s c) 0) _ _ (eqb-iff (extendRefusal s c) 0)
-
-pub meet-chosen : (s : Span) (l : Line) → Chosen (meetRefusal s l ≡ 0) (meetAnswer s l) (spanned 0 (met s l)) (spanned (meetRefusal s l) s)
-unfolding meetAnswer
-meet-chosen s l = chosen (eqb (meetRefusal s l) 0) _ _ (eqb-iff (meetRefusal s l) 0)
-
-pub try-extend-chosen : (s o : Span) → Chosen (joinRefusal s o ≡ 0) (tryExtendAnswer s o) (record { refusal = 0; joined = tryExtended s o .joined; span = tryExtended s o .span }) (record { refusal = joinRefusal s o; joined = false; span = s })
-unfolding tryExtendAnswer
-try-extend-chosen s o = chosen (eqb (joinRefusal s o) 0) _ _ (eqb-iff (joinRefusal s o) 0)
-
-pub try-take-chosen : (s : Span) → Chosen (spanRefusal s ≡ 0) (tryTakeAnswer s) (record { refusal = 0; taken = tryTaken s .taken; span = tryTaken s .span; rest = tryTaken s .rest }) (record { refusal = spanRefusal s; taken = false; span = newSpan (pos 0); rest = s })
-unfolding tryTakeAnswer
-try-take-chosen s = chosen (eqb (spanRefusal s) 0) _ _ (eqb-iff (spanRefusal s) 0)

@@ -1,5 +1,5 @@
+pub mod Answers
 pub mod Folds
 pub mod Laws
-pub mod Lines
-pub mod Refused
-pub mod Steps
+pub mod Printed
+pub mod Rows

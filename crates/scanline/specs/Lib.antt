@@ -1,5 +1,6 @@
 pub mod Answers
 pub mod Meeting
-pub mod Points
+pub mod Printed
+pub mod Rows
 pub mod Spans
 pub mod Words

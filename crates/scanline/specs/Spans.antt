@@ -1,28 +1,12 @@
 -- A span of columns of one row: the printed `extend`, and W6's new span, `try_extend` and `try_take`.
 use mathlib.Core.Bool.{Bool, true, false, _&&_, _||_, cond}
-use Prim.Native.Nat.{ℕ}
 use lib.IntN.{ℤ, pos, _+ℤ_, _-ℤ_}
-use lib.Signed.{ltZ, leZ, _≤ℤ_, _<ℤ_}
-use Rattle.whole.specs.Number.{lesser, greater, isWithin}
+use lib.Signed.{ltZ, leZ}
+use Rattle.whole.specs.Number.{lesser, greater}
 use Rattle.shapes.specs.declared.Span.{Span}
+use Rattle.shapes.specs.Spans.{spanOf, isEmpty}
 use Rattle.scanline.specs.declared.Joined.{Joined}
 use Rattle.scanline.specs.declared.Handed.{Handed}
-
-abbrev pub spanOf : ℤ → ℤ → ℤ → Span
-spanOf row start end = record { row = row; start = start; end = end }
-
--- the column c is one of the span's: from its start to its end, the end not included
-pub record Covers (s : Span) (c : ℤ) : Type 0 where
-  pub from : s .start ≤ℤ c
-  pub below : c <ℤ s .end
-
--- "a span is empty when its end is not above its start"
-unfoldable pub isEmpty : Span → Bool
-isEmpty s = leZ (s .end) (s .start)
-
--- the first and the last column of a span that is not empty are from -k to k
-unfoldable pub isSound : ℕ → Span → Bool
-isSound k s = isEmpty s || (isWithin k (s .start) && isWithin k (s .end -ℤ pos 1))
 
 -- W6: a new span is empty, 0 to 0
 abbrev pub newSpan : ℤ → Span

@@ -4,17 +4,11 @@ use mathlib.Core.Path.{_≡_}
 use mathlib.Core.Logic.{_⊎_}
 use mathlib.Core.Bool.{false}
 use mathlib.Core.List.{List, List·Memᴰ}
-use Prim.Native.Nat.{ℕ}
 use lib.IntN.{ℤ, pos, _-ℤ_}
 use lib.Signed.{_<ℤ_}
-use Rattle.whole.specs.Number.{Within}
 use Rattle.shapes.specs.declared.Point.{Point}
 use Rattle.shapes.specs.declared.Span.{Span}
-use Rattle.scanline.specs.Spans.{Covers, isEmpty}
-
--- every column is from -k to k
-abbrev pub Sound : ℕ → Span → Type 0
-Sound k s = (c : ℤ) → Covers s c → Within c k
+use Rattle.shapes.specs.Spans.{Covers, isEmpty}
 
 -- a column that neither has lies between two spans that are not empty
 abbrev pub Apart : Span → Span → Type 0

@@ -1,10 +1,12 @@
 //! Spans of a row: a new span, one made longer by a column or by the points of a line, two joined, and one handed out.
 //! `scanline.rs`, and 01's rule W6.
 ghost use mathlib.Core.Path.{_≡_};
-ghost use Rattle.scanline.specs.Answers.{columnRefusal, spanRefusal, extendRefusal, meetRefusal, joinRefusal};
+ghost use Rattle.shapes.specs.Limits.{cornerLimit};
+ghost use Rattle.scanline.specs.Answers.{rowRefusal, spanRefusal, extendRefusal, meetRefusal, joinRefusal};
 ghost use Rattle.scanline.specs.Answers.{freshAnswer, extendAnswer, meetAnswer, tryExtendAnswer, tryTakeAnswer};
 
 pub mod inner; // inner.rt: the same without the tests
+pub mod quotients; // quotients.rt: a line's first and last column on a row
 
 use shapes::Line;
 use shapes::Span;
@@ -13,6 +15,8 @@ use shapes::limits::CORNER;
 use shapes::refusals::COLUMN;
 use shapes::refusals::COORDINATE;
 use shapes::refusals::ROW;
+use shapes::spans::is_sound;
+use whole::inner::both;
 use whole::inner::within;
 
 /// A span, or the refusal with the span handed in as it was, or with zeros where none was handed in.
@@ -52,32 +56,24 @@ pub struct Handed {
 
 /// A new span on a row: empty, 0 to 0. A row outside 4,095 is refused with 6.
 pub fn fresh(row: i64) -> Spanned
-    ensures { λ r. ⌜ r ≡ freshAnswer row ⌝ }
+    ensures { λ r. ⌜ r ≡ freshAnswer cornerLimit row ⌝ }
 {
     if within(row, CORNER) {
         return Spanned {
             refusal: 0,
-            span: Span {
-                row,
-                start: 0,
-                end: 0,
-            },
+            span: inner::new_span(row),
         };
     }
     Spanned {
         refusal: ROW,
-        span: Span {
-            row: 0,
-            start: 0,
-            end: 0,
-        },
+        span: inner::new_span(0),
     }
 }
 
 /// The shortest span that has the span's columns and one more. A row outside 4,095 is refused with 6; then a span with a
 /// column outside 4,095, and such a column to be added, with 7.
 pub fn extend(span: Span, column: i64) -> Spanned
-    ensures { λ r. ⌜ r ≡ extendAnswer span column ⌝ }
+    ensures { λ r. ⌜ r ≡ extendAnswer cornerLimit span column ⌝ }
 {
     let refusal = extend_refusal(span, column);
     if refusal == 0 {
@@ -92,7 +88,7 @@ pub fn extend(span: Span, column: i64) -> Spanned
 /// The shortest span that has the span's columns and those of the line's points on its row. A line with a coordinate beyond
 /// 4,095 is refused with 4; then a row outside 4,095 with 6; then a span with a column outside 4,095 with 7.
 pub fn meet(span: Span, line: Line) -> Spanned
-    ensures { λ r. ⌜ r ≡ meetAnswer span line ⌝ }
+    ensures { λ r. ⌜ r ≡ meetAnswer cornerLimit span line ⌝ }
 {
     let refusal = meet_refusal(span, line);
     if refusal == 0 {
@@ -108,7 +104,7 @@ pub fn meet(span: Span, line: Line) -> Spanned
 /// overlap or are adjacent join; else the span stays, and the answer is no. A row outside 4,095 and two rows that differ are
 /// refused with 6; then a span with a column outside 4,095 with 7.
 pub fn try_extend(span: Span, other: Span) -> Extended
-    ensures { λ r. ⌜ r ≡ tryExtendAnswer span other ⌝ }
+    ensures { λ r. ⌜ r ≡ tryExtendAnswer cornerLimit span other ⌝ }
 {
     let refusal = join_refusal(span, other);
     if refusal == 0 {
@@ -131,7 +127,7 @@ pub fn try_extend(span: Span, other: Span) -> Extended
 /// Hands out a span that is not empty, and leaves 0 to 0 on its row; an empty span is left as it is. A row outside 4,095 is
 /// refused with 6; then a span with a column outside 4,095 with 7.
 pub fn try_take(span: Span) -> Taken
-    ensures { λ r. ⌜ r ≡ tryTakeAnswer span ⌝ }
+    ensures { λ r. ⌜ r ≡ tryTakeAnswer cornerLimit span ⌝ }
 {
     let refusal = span_refusal(span);
     if refusal == 0 {
@@ -149,39 +145,43 @@ pub fn try_take(span: Span) -> Taken
     Taken {
         refusal,
         taken: false,
-        span: Span {
-            row: 0,
-            start: 0,
-            end: 0,
-        },
+        span: inner::new_span(0),
         rest: span,
     }
 }
 
 /// The refusal of a span alone, 0 where there is none: 6, then 7.
 fn span_refusal(span: Span) -> u64
-    ensures { λ r. ⌜ r ≡ spanRefusal span ⌝ }
+    ensures { λ r. ⌜ r ≡ spanRefusal cornerLimit span ⌝ }
 {
-    if within(span.row, CORNER) {
-        return column_refusal(inner::is_sound(span, CORNER));
-    }
-    ROW
+    row_refusal(within(span.row, CORNER), is_sound(span, CORNER))
 }
 
 /// The refusal of a span and a column: 6, then 7.
 fn extend_refusal(span: Span, column: i64) -> u64
-    ensures { λ r. ⌜ r ≡ extendRefusal span column ⌝ }
+    ensures { λ r. ⌜ r ≡ extendRefusal cornerLimit span column ⌝ }
 {
-    let alone = span_refusal(span);
-    if alone == 0 {
-        return column_refusal(within(column, CORNER));
-    }
-    alone
+    row_refusal(
+        within(span.row, CORNER),
+        both(is_sound(span, CORNER), within(column, CORNER)),
+    )
+}
+
+/// The refusal of two spans: 6, then 7.
+fn join_refusal(span: Span, other: Span) -> u64
+    ensures { λ r. ⌜ r ≡ joinRefusal cornerLimit span other ⌝ }
+{
+    let row = span.row;
+    let beside = other.row;
+    row_refusal(
+        both(within(row, CORNER), row == beside),
+        both(is_sound(span, CORNER), is_sound(other, CORNER)),
+    )
 }
 
 /// The refusal of a span and a line: 4, then 6, then 7.
 fn meet_refusal(span: Span, line: Line) -> u64
-    ensures { λ r. ⌜ r ≡ meetRefusal span line ⌝ }
+    ensures { λ r. ⌜ r ≡ meetRefusal cornerLimit span line ⌝ }
 {
     if is_line_near(line, CORNER) {
         return span_refusal(span);
@@ -189,25 +189,15 @@ fn meet_refusal(span: Span, line: Line) -> u64
     COORDINATE
 }
 
-/// The refusal of two spans: 6, then 7.
-fn join_refusal(span: Span, other: Span) -> u64
-    ensures { λ r. ⌜ r ≡ joinRefusal span other ⌝ }
+/// 6 where the row is not right; then 7 where some column is not inside; else 0.
+fn row_refusal(right: bool, inside: bool) -> u64
+    ensures { λ r. ⌜ r ≡ rowRefusal right inside ⌝ }
 {
-    let row = span.row;
-    let beside = other.row;
-    if row != beside {
-        return ROW;
+    if right {
+        if inside {
+            return 0;
+        }
+        return COLUMN;
     }
-    let alone = span_refusal(span);
-    if alone == 0 {
-        return column_refusal(inner::is_sound(other, CORNER));
-    }
-    alone
-}
-
-/// 7 where some column is outside, else 0.
-fn column_refusal(inside: bool) -> u64
-    ensures { λ r. ⌜ r ≡ columnRefusal inside ⌝ }
-{
-    if inside { 0 } else { COLUMN }
+    ROW
 }

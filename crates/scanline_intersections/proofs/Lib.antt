@@ -1,3 +1,4 @@
+pub mod Handing
 pub mod Merging
 pub mod Polyline
 pub mod Refused

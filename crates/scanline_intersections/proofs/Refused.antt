@@ -2,27 +2,32 @@
 use mathlib.Core.Path.{_≡_, refl, sym, _∙_}
 use mathlib.Core.Logic.{_↔_}
 use mathlib.Core.Bool.{Bool, true, false, cond}
-use mathlib.Core.List.{List}
-use Prim.Native.Nat.{ℕ, _≤_, _<_}
+use mathlib.Core.List.{List, [], _∷_}
+use Prim.Native.Nat.{ℕ, _+_, _≤_, _<_}
 use native.Mathlib.Omega.{arith}
 use borrow.Author.Tests.{eqb-true, eqb-false}
 use lib.Dec.{eqb}
-use lib.IntN.{ℤ}
+use lib.IntN.{ℤ, pos}
 use Rattle.whole.specs.Number.{Within, isWithin}
-use Rattle.whole.proofs.Laws.{true-within, within-true}
-use Rattle.whole.proofs.Tests.{never, bad-first, good-first, good-later}
-use Rattle.shapes.specs.Limits.{pointLimit, cornerLimit}
-use Rattle.scanline.specs.Spans.{isSound}
-use Rattle.scanline.specs.Words.{Sound}
+use Rattle.whole.proofs.Laws.{within-iff}
+use Rattle.whole.proofs.Tests.{eqb-iff, Chosen, chosen, never, bad-first, good-first, good-later}
+use Rattle.shapes.specs.declared.limits.Limits.{Limits}
+use Rattle.shapes.specs.Spans.{isSound, Sound}
+use Rattle.shapes.specs.declared.Span.{Span}
+use Rattle.scanline.specs.Spans.{newSpan, tryExtended}
 use Rattle.scanline.specs.Answers.{spanRefusal}
-use Rattle.scanline.proofs.Laws.{sound-exactly}
+use Rattle.scanline.proofs.Answers.{span-six, span-seven, span-none}
 use Rattle.line_join.specs.Caps.{JoinNear}
 use Rattle.coordinates.specs.Refusal.{routeRefusal, Accepted}
 use Rattle.coordinates.proofs.Laws.{refused-most, accepted-exactly}
 use Rattle.route_joins.specs.Joins.{joinAt, joinCount, areJoinsNear}
 use Rattle.route_joins.proofs.Near.{joins-exactly}
+use Rattle.route_joins.proofs.Walks.{refusal-told}
 use Rattle.scanline_intersections.specs.declared.Intersections.{Intersections}
-use Rattle.scanline_intersections.specs.Answers.{listRefusal, startRefusal, nextRefusal}
+use Rattle.scanline_intersections.specs.declared.Merged.{Merged}
+use Rattle.scanline_intersections.specs.Segments.{spansFrom}
+use Rattle.scanline_intersections.specs.Merging.{walkOf, mergedNext, nextMerged}
+use Rattle.scanline_intersections.specs.Answers.{startRefusal, polylineStart, nextRefusal, nextAnswer}
 
 -- ---- the first of two refusals
 
@@ -39,96 +44,115 @@ second-exactly {first} other q false e = (λ h. absurd (other h (eqb-false first
 pub replaced : {A P P' Q : Type 0} → P ↔ P' → A ↔ (P × Q) → A ↔ (P' × Q)
 replaced p e = (λ h. (p .0 (e .0 h .0), e .0 h .1), λ h. e .1 (p .1 (h .0), h .1))
 
+-- what is merged is no refusal
+merged-by : (t : Bool) (a b : Merged) → a .refusal ≡ 0 → b .refusal ≡ 0 → cond t a b .refusal ≡ 0
+merged-by true a b p q = p
+merged-by false a b p q = q
+
+merged-none : (k : ℕ) (w : ℤ) (s : Span) (os : List Span) → mergedNext k w s os .refusal ≡ 0
+unfolding mergedNext
+merged-none k w s [] = refl
+merged-none k w s (o ∷ os) = merged-by (tryExtended s o .joined) _ _ (merged-none (k + 1) w (tryExtended s o .span) os) refl
+
+merged-fine : (cs : List ℤ) (walk : Intersections) → nextMerged cs walk .refusal ≡ 0
+unfolding nextMerged
+merged-fine cs walk = merged-none (walk .place) (walk .width) (walk .span) (spansFrom cs (walk .width) (walk .span .row) (walk .place))
+
 -- ---- the words of 01's table
 
--- every join of the open route has its corners within 4,095
-abbrev pub JoinsNear : List ℤ → ℤ → Type 0
-JoinsNear cs w = (i : ℕ) → i < joinCount cs → JoinNear cornerLimit (joinAt false cs w i)
+module _ (limits : Limits) (cs : List ℤ) where
+  -- every join of the open route has its corners inside
+  abbrev pub JoinsNear : ℤ → Type 0
+  JoinsNear w = (i : ℕ) → i < joinCount cs → JoinNear (limits .corner) (joinAt false cs w i)
 
-within-exactly : (z : ℤ) → (isWithin cornerLimit z ≡ true) ↔ Within z cornerLimit
-within-exactly z = (true-within cornerLimit z, within-true)
+  abbrev list : ℤ → ℕ
+  list w = routeRefusal (limits .point) false cs w
 
--- ---- start
+  abbrev fine : ℤ → Type 0
+  fine w = Accepted (limits .point) false cs w
 
-module _ (cs : List ℤ) (w row : ℤ) where
-  abbrev fine : Type 0
-  fine = Accepted pointLimit false cs w
+  -- a number that the list and the width are not refused with
+  other : (w : ℤ) {m : ℕ} → 4 < m → list w ≡ m → (list w ≡ 0 → ⊥) → ⊥
+  other w high e _ = refused-most (limits .point) false cs w high e
 
-  row-never : {m : ℕ} → 0 < m → m < 6 → cond (isWithin cornerLimit row) 0 6 ≡ m → ⊥
-  row-never low high = never (isWithin cornerLimit row) (λ e. omega arith) (λ e. omega arith)
+  -- ---- start
 
-  -- 1 to 4 as of the list and the width
-  pub start-list : {m : ℕ} → 0 < m → m ≤ 4 → (startRefusal cs w row ≡ m) ↔ (routeRefusal pointLimit false cs w ≡ m)
-  unfolding startRefusal listRefusal
-  start-list low high = first-exactly (λ e. omega arith) (row-never low (omega arith)) (eqb (routeRefusal pointLimit false cs w) 0) refl
+  module _ (w row : ℤ) where
+    abbrev inside : Bool
+    inside = isWithin (limits .corner) row
 
-  start-later : {Q : Type 0} {m : ℕ} → (routeRefusal pointLimit false cs w ≡ m → (routeRefusal pointLimit false cs w ≡ 0 → ⊥) → ⊥) → (cond (isWithin cornerLimit row) 0 6 ≡ m) ↔ Q → (startRefusal cs w row ≡ m) ↔ (fine × Q)
-  unfolding startRefusal listRefusal
-  start-later other q = replaced (accepted-exactly pointLimit false cs w) (second-exactly other q (eqb (routeRefusal pointLimit false cs w) 0) refl)
+    -- 1 to 4 as of the list and the width
+    pub start-list : {m : ℕ} → 0 < m → m ≤ 4 → (startRefusal limits cs w row ≡ m) ↔ (list w ≡ m)
+    unfolding startRefusal
+    start-list low high = first-exactly (λ e. omega arith) (never inside (λ e. omega arith) (λ e. omega arith)) (eqb (list w) 0) refl
 
-  -- then 6: the row is outside 4,095
-  pub start-6 : (startRefusal cs w row ≡ 6) ↔ (fine × (Within row cornerLimit → ⊥))
-  start-6 = start-later (λ h _. refused-most pointLimit false cs w (omega arith) h) (good-first (isWithin cornerLimit row) (within-exactly row) (λ e. omega arith))
+    start-later : {Q : Type 0} {m : ℕ} → (list w ≡ m → (list w ≡ 0 → ⊥) → ⊥) → (cond inside 0 6 ≡ m) ↔ Q → (startRefusal limits cs w row ≡ m) ↔ (fine w × Q)
+    unfolding startRefusal
+    start-later o q = replaced (accepted-exactly (limits .point) false cs w) (second-exactly o q (eqb (list w) 0) refl)
 
-  pub start-sound : (startRefusal cs w row ≡ 0) ↔ (fine × Within row cornerLimit)
-  start-sound = start-later (λ h no. no h) (bad-first (isWithin cornerLimit row) (within-exactly row) (λ e. omega arith))
+    -- then 6: the row is outside
+    pub start-6 : (startRefusal limits cs w row ≡ 6) ↔ (fine w × (Within row (limits .corner) → ⊥))
+    start-6 = start-later (other w (omega arith)) (good-first inside (within-iff (limits .corner) row) (λ e. omega arith))
 
--- ---- next
+    pub start-sound : (startRefusal limits cs w row ≡ 0) ↔ (fine w × Within row (limits .corner))
+    start-sound = start-later (λ h no. no h) (bad-first inside (within-iff (limits .corner) row) (λ e. omega arith))
 
-module _ (cs : List ℤ) (walk : Intersections) where
-  abbrev w : ℤ
-  w = walk .width
+    -- with no refusal a walk at the first segment, else all 0 but the number
+    pub start-chosen : Chosen (startRefusal limits cs w row ≡ 0) (polylineStart limits cs w row)
+        (record { refusal = 0; walk = walkOf 0 w (newSpan row) }) (record { refusal = startRefusal limits cs w row; walk = walkOf 0 (pos 0) (newSpan (pos 0)) })
+    unfolding polylineStart
+    start-chosen = chosen (eqb (startRefusal limits cs w row) 0) _ _ (eqb-iff (startRefusal limits cs w row) 0)
 
-  abbrev good : Type 0
-  good = Accepted pointLimit false cs w
+  -- ---- next
 
-  abbrev rest : ℕ
-  rest = cond (areJoinsNear cornerLimit false cs w) (spanRefusal (walk .span)) 5
+  module _ (walk : Intersections) where
+    abbrev w : ℤ
+    w = walk .width
 
-  rest-never : {m : ℕ} → 0 < m → m < 5 → rest ≡ m → ⊥
-  unfolding spanRefusal
-  rest-never low high =
-      never (areJoinsNear cornerLimit false cs w)
-      (never (isWithin cornerLimit (walk .span .row)) (never (isSound cornerLimit (walk .span)) (λ e. omega arith) (λ e. omega arith)) (λ e. omega arith)) (λ e. omega arith)
+    abbrev near : Bool
+    near = areJoinsNear (limits .corner) false cs w
 
-  -- 1 to 4 as of the list and the width
-  pub next-list : {m : ℕ} → 0 < m → m ≤ 4 → (nextRefusal cs walk ≡ m) ↔ (routeRefusal pointLimit false cs w ≡ m)
-  unfolding nextRefusal listRefusal
-  next-list low high = first-exactly (λ e. omega arith) (rest-never low (omega arith)) (eqb (routeRefusal pointLimit false cs w) 0) refl
+    abbrev rest : ℕ
+    rest = cond near (spanRefusal (limits .corner) (walk .span)) 5
 
-  next-later : {Q : Type 0} {m : ℕ} → (routeRefusal pointLimit false cs w ≡ m → (routeRefusal pointLimit false cs w ≡ 0 → ⊥) → ⊥) → (rest ≡ m) ↔ Q → (nextRefusal cs walk ≡ m) ↔ (good × Q)
-  unfolding nextRefusal listRefusal
-  next-later other q = replaced (accepted-exactly pointLimit false cs w) (second-exactly other q (eqb (routeRefusal pointLimit false cs w) 0) refl)
+    -- a span is refused with 6 and 7 alone
+    span-never : {m : ℕ} → 0 < m → m < 6 → spanRefusal (limits .corner) (walk .span) ≡ m → ⊥
+    unfolding spanRefusal
+    span-never low high = never (isWithin (limits .corner) (walk .span .row)) (never (isSound (limits .corner) (walk .span)) (λ e. omega arith) (λ e. omega arith)) (λ e. omega arith)
 
-  -- then 5: some join of the route has a corner outside 4,095
-  pub next-5 : (nextRefusal cs walk ≡ 5) ↔ (good × (JoinsNear cs w → ⊥))
-  unfolding spanRefusal
-  next-5 =
-      next-later (λ h _. refused-most pointLimit false cs w (omega arith) h)
-      (good-first (areJoinsNear cornerLimit false cs w) (joins-exactly cornerLimit false cs w)
-      (never (isWithin cornerLimit (walk .span .row)) (never (isSound cornerLimit (walk .span)) (λ e. omega arith) (λ e. omega arith)) (λ e. omega arith)))
+    -- 1 to 4 as of the list and the width
+    pub next-list : {m : ℕ} → 0 < m → m ≤ 4 → (nextRefusal limits cs walk ≡ m) ↔ (list w ≡ m)
+    unfolding nextRefusal
+    next-list low high = first-exactly (λ e. omega arith) (never near (span-never low (omega arith)) (λ e. omega arith)) (eqb (list w) 0) refl
 
-  -- then 6: the row of the walk's span is outside 4,095
-  pub next-6 : (nextRefusal cs walk ≡ 6) ↔ (good × (JoinsNear cs w × (Within (walk .span .row) cornerLimit → ⊥)))
-  unfolding spanRefusal
-  next-6 =
-      next-later (λ h _. refused-most pointLimit false cs w (omega arith) h)
-      (good-later (areJoinsNear cornerLimit false cs w) (joins-exactly cornerLimit false cs w) (λ e. omega arith)
-      (good-first (isWithin cornerLimit (walk .span .row)) (within-exactly (walk .span .row)) (never (isSound cornerLimit (walk .span)) (λ e. omega arith) (λ e. omega arith))))
+    next-later : {Q : Type 0} {m : ℕ} → (list w ≡ m → (list w ≡ 0 → ⊥) → ⊥) → (rest ≡ m) ↔ Q → (nextRefusal limits cs walk ≡ m) ↔ (fine w × Q)
+    unfolding nextRefusal
+    next-later o q = replaced (accepted-exactly (limits .point) false cs w) (second-exactly o q (eqb (list w) 0) refl)
 
-  -- then 7: a column of that span is outside 4,095
-  pub next-7 : (nextRefusal cs walk ≡ 7) ↔ (good × (JoinsNear cs w × (Within (walk .span .row) cornerLimit × (Sound cornerLimit (walk .span) → ⊥))))
-  unfolding spanRefusal
-  next-7 =
-      next-later (λ h _. refused-most pointLimit false cs w (omega arith) h)
-      (good-later (areJoinsNear cornerLimit false cs w) (joins-exactly cornerLimit false cs w) (λ e. omega arith)
-      (good-later (isWithin cornerLimit (walk .span .row)) (within-exactly (walk .span .row)) (λ e. omega arith)
-      (good-first (isSound cornerLimit (walk .span)) (sound-exactly cornerLimit (walk .span)) (λ e. omega arith))))
+    -- then 5: some join of the route has a corner outside
+    pub next-5 : (nextRefusal limits cs walk ≡ 5) ↔ (fine w × (JoinsNear w → ⊥))
+    next-5 = next-later (other w (omega arith)) (good-first near (joins-exactly (limits .corner) false cs w) (span-never (omega arith) (omega arith)))
 
-  pub next-sound : (nextRefusal cs walk ≡ 0) ↔ (good × (JoinsNear cs w × (Within (walk .span .row) cornerLimit × Sound cornerLimit (walk .span))))
-  unfolding spanRefusal
-  next-sound =
-      next-later (λ h no. no h)
-      (good-later (areJoinsNear cornerLimit false cs w) (joins-exactly cornerLimit false cs w) (λ e. omega arith)
-      (good-later (isWithin cornerLimit (walk .span .row)) (within-exactly (walk .span .row)) (λ e. omega arith)
-      (bad-first (isSound cornerLimit (walk .span)) (sound-exactly cornerLimit (walk .span)) (λ e. omega arith))))
+    -- then 6 and 7, as of the walk's span
+    later-near : {Q : Type 0} {m : ℕ} → (5 ≡ m → ⊥) → (list w ≡ m → (list w ≡ 0 → ⊥) → ⊥) → (spanRefusal (limits .corner) (walk .span) ≡ m) ↔ Q → (nextRefusal limits cs walk ≡ m) ↔ (fine w × (JoinsNear w × Q))
+    later-near five o q = next-later o (good-later near (joins-exactly (limits .corner) false cs w) five q)
+
+    pub next-6 : (nextRefusal limits cs walk ≡ 6) ↔ (fine w × (JoinsNear w × (Within (walk .span .row) (limits .corner) → ⊥)))
+    next-6 = later-near (λ e. omega arith) (other w (omega arith)) (span-six (limits .corner) (walk .span))
+
+    pub next-7 : (nextRefusal limits cs walk ≡ 7) ↔ (fine w × (JoinsNear w × (Within (walk .span .row) (limits .corner) × (Sound (limits .corner) (walk .span) → ⊥))))
+    next-7 = later-near (λ e. omega arith) (other w (omega arith)) (span-seven (limits .corner) (walk .span))
+
+    pub next-sound : (nextRefusal limits cs walk ≡ 0) ↔ (fine w × (JoinsNear w × (Within (walk .span .row) (limits .corner) × Sound (limits .corner) (walk .span))))
+    next-sound = later-near (λ e. omega arith) (λ h no. no h) (span-none (limits .corner) (walk .span))
+
+    -- with no refusal what is merged next, else all 0 but the number, and the walk as it was
+    pub next-chosen : Chosen (nextRefusal limits cs walk ≡ 0) (nextAnswer limits cs walk)
+        (nextMerged cs walk) (record { refusal = nextRefusal limits cs walk; found = false; span = newSpan (pos 0); walk = walk })
+    unfolding nextAnswer
+    next-chosen = chosen (eqb (nextRefusal limits cs walk) 0) _ _ (eqb-iff (nextRefusal limits cs walk) 0)
+
+    -- the answer tells it
+    pub next-refusal : nextAnswer limits cs walk .refusal ≡ nextRefusal limits cs walk
+    unfolding nextAnswer
+    next-refusal = refusal-told {A = Merged} (λ r. r .refusal) (nextRefusal limits cs walk) (merged-fine cs walk) refl

@@ -5,7 +5,8 @@ use mathlib.Core.List.{List, [], _∷_}
 use Prim.Native.Nat.{ℕ, _+_}
 use lib.IntN.{ℤ}
 use Rattle.shapes.specs.declared.Span.{Span}
-use Rattle.scanline.specs.Spans.{isEmpty, tryExtended, tryTaken}
+use Rattle.shapes.specs.Spans.{isEmpty}
+use Rattle.scanline.specs.Spans.{tryExtended, tryTaken}
 use Rattle.scanline_intersections.specs.declared.Intersections.{Intersections}
 use Rattle.scanline_intersections.specs.declared.Merged.{Merged}
 use Rattle.scanline_intersections.specs.Segments.{spansFrom}

@@ -4,16 +4,9 @@ use mathlib.Core.List.{List, [], _∷_}
 use lib.IntN.{ℤ}
 use Rattle.shapes.specs.declared.Point.{Point}
 use Rattle.shapes.specs.declared.Offset.the-variants.{None}
-use Rattle.shapes.specs.Shape.{pointOf}
 use Rattle.line_join.specs.declared.Join.{Join}
 use Rattle.line_join.specs.Join.{startOf, endOf, joinOf}
 use Rattle.thick_segment.specs.declared.Segment.{Segment}
-
--- the points of a list of numbers; a number that is left over is none
-unfoldable pub pointsOf : List ℤ → List Point
-pointsOf [] = []
-pointsOf (x ∷ []) = []
-pointsOf (x ∷ y ∷ cs) = pointOf x y ∷ pointsOf cs
 
 unfoldable pub nextSegments : ℤ → Join → List Point → List Segment
 nextSegments w start [] = []

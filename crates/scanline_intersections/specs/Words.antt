@@ -5,11 +5,11 @@ use mathlib.Core.List.{List, [], _∷_}
 use Prim.Native.Nat.{ℕ, _<_}
 use lib.IntN.{ℤ}
 use Rattle.shapes.specs.declared.Span.{Span}
-use Rattle.scanline.specs.Spans.{Covers}
-use Rattle.thick_segment.specs.Segments.{spanOn}
-use Rattle.route_joins.specs.Joins.{openSegment, openCount}
+use Rattle.shapes.specs.Spans.{Covers}
+use Rattle.route_joins.specs.Joins.{openCount}
 use Rattle.scanline_intersections.specs.declared.Intersections.{Intersections}
-use Rattle.scanline_intersections.specs.Merging.{nextMerged}
+use Rattle.scanline_intersections.specs.declared.Merged.{Merged}
+use Rattle.scanline_intersections.specs.Segments.{spanAt}
 
 -- one of the spans has the column
 pub data Covered (c : ℤ) : List Span → Type 0 where
@@ -20,9 +20,10 @@ pub data Covered (c : ℤ) : List Span → Type 0 where
 pub record OnSegment (cs : List ℤ) (w row c : ℤ) : Type 0 where
   pub place : ℕ
   pub inside : place < openCount cs
-  pub covers : Covers (spanOn (openSegment cs w place) row) c
+  pub covers : Covers (spanAt cs w row place) c
 
--- `next`, asked again and again with the walk that it answered last, hands out these spans, and then none
-pub data HandsOut (cs : List ℤ) : Intersections → List Span → Type 0 where
-  done : {walk : Intersections} → nextMerged cs walk .found ≡ false → HandsOut cs walk []
-  more : {walk : Intersections} {ss : List Span} → nextMerged cs walk .found ≡ true → HandsOut cs (nextMerged cs walk .walk) ss → HandsOut cs walk (nextMerged cs walk .span ∷ ss)
+-- `next`, asked again and again with the walk that it answered last, is never refused, hands out these spans, and from then on says that
+-- there is none: the same answer for ever
+pub data HandsOut (next : Intersections → Merged) : Intersections → List Span → Type 0 where
+  done : {walk : Intersections} → next walk .refusal ≡ 0 → next walk .found ≡ false → next (next walk .walk) ≡ next walk → HandsOut next walk []
+  more : {walk : Intersections} {ss : List Span} → next walk .refusal ≡ 0 → next walk .found ≡ true → HandsOut next (next walk .walk) ss → HandsOut next walk (next walk .span ∷ ss)

@@ -2,17 +2,18 @@
 ghost use mathlib.Core.Path.{_≡_};
 ghost use mathlib.Core.Bool.{true, false};
 ghost use mathlib.Core.List.{[]};
-ghost use Rattle.shapes.specs.Limits.{pointLimit, cornerLimit};
-ghost use Rattle.line_join.specs.Miter.{Thin};
+ghost use Rattle.shapes.specs.Limits.{strokeLimit, lineLimit};
+ghost use Rattle.shapes.specs.Strokes.{Thin};
 ghost use Rattle.coordinates.specs.Refusal.{AllWithin};
 ghost use Rattle.route_joins.specs.Joins.{areJoinsNear};
 ghost use Rattle.scanline_intersections.specs.Merging.{mergedNext, nextMerged};
 use crate::Intersections;
 use crate::Merged;
-use route_joins::inner::open_count;
-use route_joins::inner::open_segment;
+use route_joins::inner::segment_count;
+use route_joins::inner::segment_of;
 use scanline::inner::try_extend;
 use scanline::inner::try_take;
+use shapes::Offset;
 use shapes::Span;
 use thick_segment::inner::span as span_on;
 
@@ -38,18 +39,18 @@ fn hand_out(place: usize, width: i64, gathered: Span) -> Merged
 
 /// The next merged span of the segments from the walk's place on, and the walk after it.
 pub fn merge(coordinates: &[i64], walk: Intersections) -> Merged
-    requires { ⌜ AllWithin pointLimit (now coordinates) ⌝ }
+    requires { ⌜ AllWithin strokeLimit (now coordinates) ⌝ }
     requires { ⌜ Thin (walk .width) ⌝ }
-    requires { ⌜ areJoinsNear cornerLimit false (now coordinates) (walk .width) ≡ true ⌝ }
+    requires { ⌜ areJoinsNear lineLimit false (now coordinates) (walk .width) ≡ true ⌝ }
     ensures { λ r. ⌜ r ≡ nextMerged (now (coordinates .entry)) walk ⌝ }
 {
     let width = walk.width;
     let mut place = walk.place;
     let mut gathered = walk.span;
     let row = gathered.row;
-    let count = open_count(coordinates);
+    let count = segment_count(coordinates, false);
     while place < count {
-        let segment = open_segment(coordinates, width, place);
+        let segment = segment_of(coordinates, width, false, Offset::None, place);
         let other = span_on(segment, row);
         let tried = try_extend(gathered, other);
         let next = place + 1;

@@ -2,7 +2,8 @@
 //! adjacent. `polyline/scanline_intersections.rs`, with 01's rule W6.
 ghost use mathlib.Core.Path.{_≡_};
 ghost use Rattle.route_joins.specs.Steps.{stepValues};
-ghost use Rattle.scanline_intersections.specs.Answers.{startRefusal, startAnswer, stepOf, walkAfter, nextRefusal, nextAnswer};
+ghost use Rattle.shapes.specs.Limits.{panel as panelLimits};
+ghost use Rattle.scanline_intersections.specs.Answers.{startRefusal, polylineStart, polylineStep, afterPolyline, nextRefusal, nextAnswer};
 
 pub mod inner; // inner.rt: the next merged span, without the tests
 
@@ -14,6 +15,8 @@ use route_joins::inner::step_at;
 use scanline::try_take;
 use shapes::Offset;
 use shapes::Span;
+use shapes::limits;
+use shapes::limits::panel;
 use shapes::refusals::CORNER;
 use shapes::refusals::ROW;
 use whole::inner::within;
@@ -51,7 +54,7 @@ pub struct Merged {
 /// A walk along the segments of an open route on a row. The list and the width are refused with 1 to 4; then a row outside 4,095
 /// with 6.
 pub fn start(coordinates: &[i64], width: i64, row: i64) -> Started
-    ensures { λ r. ⌜ r ≡ startAnswer (now (coordinates .entry)) width row ⌝ }
+    ensures { λ r. ⌜ r ≡ polylineStart panelLimits (now (coordinates .entry)) width row ⌝ }
 {
     let number = start_refusal(coordinates, width, row);
     if number == 0 {
@@ -86,13 +89,13 @@ pub fn start(coordinates: &[i64], width: i64, row: i64) -> Started
 /// width are refused with 1 to 4; then a segment of which a join has a corner beyond 4,095 with 5: the walk then stays where it
 /// is. The gathered span and its row are not looked at.
 pub fn next_segment(coordinates: &[i64], walk: Intersections) -> Stepped
-    ensures answers { λ r. ⌜ stepValues (r .step) ≡ stepOf (now (coordinates .entry)) walk ⌝ }
-    ensures moves { λ r. ⌜ r .walk ≡ walkAfter (now (coordinates .entry)) walk ⌝ }
+    ensures answers { λ r. ⌜ stepValues (r .step) ≡ polylineStep panelLimits (now (coordinates .entry)) walk ⌝ }
+    ensures moves { λ r. ⌜ r .walk ≡ afterPolyline panelLimits (now (coordinates .entry)) walk ⌝ }
 {
     let place = walk.place;
     let width = walk.width;
     let span = walk.span;
-    let stepped = step_at(coordinates, width, false, Offset::None, place);
+    let stepped = step_at(coordinates, width, false, Offset::None, place, panel());
     let step = stepped.step;
     let further = stepped.place;
     Stepped {
@@ -109,7 +112,7 @@ pub fn next_segment(coordinates: &[i64], walk: Intersections) -> Stepped
 /// no span is handed out that is empty. The list and the walk's width are refused with 1 to 4; then a route of which some join has
 /// a corner beyond 4,095 with 5; then a row of the walk's span outside 4,095 with 6; then a column of that span outside with 7.
 pub fn next(coordinates: &[i64], walk: Intersections) -> Merged
-    ensures { λ r. ⌜ r ≡ nextAnswer (now (coordinates .entry)) walk ⌝ }
+    ensures { λ r. ⌜ r ≡ nextAnswer panelLimits (now (coordinates .entry)) walk ⌝ }
 {
     let refusal = next_refusal(coordinates, walk);
     if refusal == 0 {
@@ -129,30 +132,26 @@ pub fn next(coordinates: &[i64], walk: Intersections) -> Merged
 
 /// The refusal of a start, 0 where there is none: 1 to 4, then 6.
 fn start_refusal(coordinates: &[i64], width: i64, row: i64) -> u64
-    ensures { λ r. ⌜ r ≡ startRefusal (now (coordinates .entry)) width row ⌝ }
+    ensures { λ r. ⌜ r ≡ startRefusal panelLimits (now (coordinates .entry)) width row ⌝ }
 {
     let number = refusal(coordinates, width, false);
     if number != 0 {
         return number;
     }
-    if within(row, shapes::limits::CORNER) {
-        0
-    } else {
-        ROW
-    }
+    if within(row, limits::CORNER) { 0 } else { ROW }
 }
 
 /// The refusal of a walk whose next merged span is asked for, 0 where there is none: 1 to 4, then 5, then 6 and 7, with which
 /// `try_take` refuses the walk's span.
 fn next_refusal(coordinates: &[i64], walk: Intersections) -> u64
-    ensures { λ r. ⌜ r ≡ nextRefusal (now (coordinates .entry)) walk ⌝ }
+    ensures { λ r. ⌜ r ≡ nextRefusal panelLimits (now (coordinates .entry)) walk ⌝ }
 {
     let width = walk.width;
     let number = refusal(coordinates, width, false);
     if number != 0 {
         return number;
     }
-    if are_joins_near(coordinates, width, false) {
+    if are_joins_near(coordinates, width, false, limits::CORNER) {
         let span = walk.span;
         return try_take(span).refusal;
     }

@@ -1,5 +1,5 @@
 -- Laws of points and lines: bounds of what is worked out of them, and what a quarter turn keeps. Assumes nothing.
-use mathlib.Core.Path.{_≡_, refl}
+use mathlib.Core.Path.{_≡_, refl, ap}
 use mathlib.Core.Logic.{_↔_}
 use mathlib.Core.Bool.{true}
 use Prim.Native.Nat.{ℕ, _+_, _*_, _^_, _≤_}
@@ -7,15 +7,16 @@ use lib.Dec.{T, ltb}
 use lib.IntN.{ℤ, _-ℤ_}
 use mir.Syntax.{w64}
 use mir.Val.{toZ, ofZ}
-use Rattle.whole.specs.Number.{Within, isWithin}
+use Rattle.whole.specs.Number.{Within, isWithin, eqZ}
 use Rattle.whole.proofs.Bounds.{within-more, within-neg, within-add, within-sub, within-mul}
 use Rattle.whole.proofs.Laws.{true-within, within-true}
 use Rattle.whole.proofs.Machine.{Hold, hold}
 use Rattle.whole.proofs.Ring.{neg, _⊕_, _⊖_, _⊗_, _≈_, ring}
-use Rattle.whole.proofs.Tests.{and-left, and-right}
+use Rattle.whole.proofs.Orders.{eqZ-iff}
+use Rattle.whole.proofs.Tests.{and-left, and-right, and-iff}
 use Rattle.shapes.specs.declared.Point.{Point}
 use Rattle.shapes.specs.declared.Line.{Line}
-use Rattle.shapes.specs.Shape.{pointOf, Near, LineNear, isNear, isLineNear, plus, minus, quarterTurn, determinant, dotProduct, delta, perpendicular}
+use Rattle.shapes.specs.Shape.{pointOf, lineOf, Near, LineNear, isNear, isLineNear, samePoint, plus, minus, quarterTurn, determinant, dotProduct, delta, perpendicular}
 
 -- ---- a coordinate, in its bits
 
@@ -110,3 +111,19 @@ perpendicular-turned l =
       ring 2 (λ s d. neg ((s ⊕ neg d) ⊖ s) ≈ d) refl (l .start .y) (l .end .x -ℤ l .start .x),
       ring 2 (λ s d. (s ⊕ d) ⊖ s ≈ d) refl (l .start .x) (l .end .y -ℤ l .start .y),
     )
+
+-- ---- the line between two points
+
+pub line-of-near : {k : ℕ} {a b : Point} → Near k a → Near k b → LineNear k (lineOf a b)
+line-of-near p q = record { start-near = p; end-near = q }
+
+-- ---- the test for equal points
+
+point-is : {a : Point} {x y : ℤ} → a .x ≡ x → a .y ≡ y → a ≡ pointOf x y
+point-is p q = rw (← p, ← q) refl
+
+pub same-exactly : (a b : Point) → (samePoint a b ≡ true) ↔ (a ≡ b)
+unfolding samePoint
+same-exactly a b =
+    let both = and-iff (eqZ (a .x) (b .x)) (eqZ (a .y) (b .y)) (eqZ-iff (a .x) (b .x)) (eqZ-iff (a .y) (b .y)) in
+    (λ e. let h = both .0 e in point-is (h .0) (h .1), λ e. both .1 (ap (λ (p : Point). p .x) e, ap (λ (p : Point). p .y) e))

@@ -1,5 +1,6 @@
 -- 01, "Numbers that bound the work": each once, by name.
-use Prim.Native.Nat.{ℕ, _^_}
+use Prim.Native.Nat.{ℕ, _^_, _≤_}
+use Rattle.shapes.specs.declared.limits.Limits.{Limits}
 
 -- a route point's coordinate is from -511 to 511
 abbrev pub pointLimit : ℕ
@@ -21,6 +22,10 @@ routePoints = 256
 abbrev pub cornerLimit : ℕ
 cornerLimit = 4095
 
+-- the three that a definition takes as an argument, together
+abbrev pub panel : Limits
+panel = record { point = pointLimit; crossing = crossingLimit; corner = cornerLimit }
+
 -- a board holds at most 32 runs
 abbrev pub boardRuns : ℕ
 boardRuns = 32
@@ -34,3 +39,12 @@ productLimit = 2 ^ 30
 -- coordinates of lines whose equations and crossings 64 bits hold
 abbrev pub lineLimit : ℕ
 lineLimit = 2 ^ 14
+
+-- points whose thick lines have edges within lineLimit, for every width
+abbrev pub strokeLimit : ℕ
+strokeLimit = 2 ^ 13
+
+-- limits that the machine has room for
+pub record Roomy (limits : Limits) : Type 0 where
+  pub point-room : limits .point ≤ strokeLimit
+  pub corner-room : limits .corner ≤ lineLimit

@@ -1,5 +1,7 @@
 -- 01, "What each number says": each once, by name, in the order in which they are tested. 0 is none.
+use mathlib.Core.Bool.{cond}
 use Prim.Native.Nat.{ℕ}
+use lib.Dec.{eqb}
 
 -- the route file's form is wrong
 abbrev pub formRefused : ℕ
@@ -37,3 +39,7 @@ columnRefused = 7
 -- no room
 abbrev pub roomRefused : ℕ
 roomRefused = 8
+
+-- the first of two that is a refusal
+abbrev pub orElse : ℕ → ℕ → ℕ
+orElse first second = cond (eqb first 0) second first

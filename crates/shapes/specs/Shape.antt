@@ -3,7 +3,7 @@ use mathlib.Core.Bool.{Bool, _&&_}
 use Prim.Native.Nat.{ℕ}
 use lib.IntN.{ℤ, pos, negℤ, _+ℤ_, _-ℤ_, _*ℤ_}
 use lib.Signed.{quotZ}
-use Rattle.whole.specs.Number.{Within, isWithin}
+use Rattle.whole.specs.Number.{Within, isWithin, eqZ}
 use Rattle.shapes.specs.declared.Point.{Point}
 use Rattle.shapes.specs.declared.Line.{Line}
 
@@ -12,6 +12,13 @@ pointOf x y = record { x = x; y = y }
 
 abbrev pub lineOf : Point → Point → Line
 lineOf a b = record { start = a; end = b }
+
+-- what stands for nothing in a refusal
+abbrev pub noPoint : Point
+noPoint = pointOf (pos 0) (pos 0)
+
+abbrev pub noLine : Line
+noLine = lineOf noPoint noPoint
 
 -- ---- bounds
 
@@ -32,6 +39,9 @@ unfoldable pub isLineNear : ℕ → Line → Bool
 isLineNear k l = isNear k (l .start) && isNear k (l .end)
 
 -- ---- points
+
+unfoldable pub samePoint : Point → Point → Bool
+samePoint a b = eqZ (a .x) (b .x) && eqZ (a .y) (b .y)
 
 unfoldable pub plus : Point → Point → Point
 plus a b = pointOf (a .x +ℤ b .x) (a .y +ℤ b .y)

@@ -2,33 +2,37 @@
 //! for 64 bits.
 ghost use mathlib.Core.Path.{_≡_};
 ghost use Rattle.shapes.specs.Limits.{productLimit, lineLimit};
-ghost use Rattle.shapes.specs.Shape.{Near, LineNear, isNear, isLineNear, plus as plusOf, minus as minusOf};
+ghost use Rattle.shapes.specs.Shape.{Near, LineNear, isNear, isLineNear, samePoint, plus as plusOf, minus as minusOf};
 ghost use Rattle.shapes.specs.Shape.{quarterTurn, determinant as determinantOf, dotProduct, squaredLength};
 ghost use Rattle.shapes.specs.Shape.{delta as deltaOf, perpendicular as perpendicularOf, midpoint as midpointOf};
 use crate::Line;
 use crate::Point;
+use whole::inner::both;
 use whole::inner::within;
 
 /// Whether both coordinates are from `-limit` to `limit`.
 pub fn is_near(p: Point, limit: u32) -> bool
     ensures { λ r. ⌜ r ≡ isNear limit p ⌝ }
 {
-    if within(p.x, limit) {
-        within(p.y, limit)
-    } else {
-        false
-    }
+    both(within(p.x, limit), within(p.y, limit))
 }
 
 /// Whether all four coordinates are from `-limit` to `limit`.
 pub fn is_line_near(line: Line, limit: u32) -> bool
     ensures { λ r. ⌜ r ≡ isLineNear limit line ⌝ }
 {
-    if is_near(line.start, limit) {
-        is_near(line.end, limit)
-    } else {
-        false
-    }
+    both(is_near(line.start, limit), is_near(line.end, limit))
+}
+
+/// Whether two points are the same.
+pub fn same_point(a: Point, b: Point) -> bool
+    ensures { λ r. ⌜ r ≡ samePoint a b ⌝ }
+{
+    let ax = a.x;
+    let ay = a.y;
+    let bx = b.x;
+    let by = b.y;
+    both(ax == bx, ay == by)
 }
 
 /// The sum of two points.

@@ -2,6 +2,8 @@
 pub mod inner; // inner.rt: what is worked out of them
 pub mod limits; // limits.rt: 01's table of numbers
 pub mod refusals; // refusals.rt: 01's table of refusals
+pub mod spans; // spans.rt: whether a span is empty, and inside the columns
+pub mod strokes; // strokes.rt: widths, and what a stroke's input is refused with
 
 /// A point of the screen: columns grow to the right, rows grow downwards.
 pub struct Point {

@@ -3,6 +3,15 @@
 ghost use mathlib.Core.Path.{_≡_};
 ghost use lib.IntN.{pos};
 ghost use Rattle.shapes.specs.Limits.{pointLimit, crossingLimit, widthLimit, routePoints, cornerLimit, boardRuns};
+ghost use Rattle.shapes.specs.Limits.{panel as panelLimits};
+
+/// What coordinates and rows are held against: a route point, a line at the crossing's own entry, and a join's corner, a row
+/// or a column, each from minus its limit to its limit.
+pub struct Limits {
+    pub point: u32,
+    pub crossing: u32,
+    pub corner: u32,
+}
 
 /// A route point's coordinate is from -511 to 511.
 pub const POINT: u32 = 511;
@@ -56,4 +65,15 @@ fn board_runs() -> usize
     ensures { λ r. ⌜ r ≡ boardRuns ⌝ }
 {
     BOARD_RUNS
+}
+
+/// The limits of a panel, for whoever holds more than one number against them.
+pub fn panel() -> Limits
+    ensures { λ r. ⌜ r ≡ panelLimits ⌝ }
+{
+    Limits {
+        point: POINT,
+        crossing: CROSSING,
+        corner: CORNER,
+    }
 }

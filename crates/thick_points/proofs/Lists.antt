@@ -2,11 +2,10 @@
 use mathlib.Core.Path.{_≡_, refl, ap, _∙_}
 use mathlib.Core.Bool.{Bool, true, false}
 use mathlib.Core.List.{List, [], _∷_, _++_}
-use Prim.Native.Nat.{ℕ, zero, suc, _+_, _*_, _-_, _≤_, _<_}
-use native.Mathlib.Nat.{zero-add}
+use Prim.Native.Nat.{ℕ, zero, suc, _+_, _*_, _-_, _^_, _≤_, _<_}
+use native.Mathlib.Nat.{zero-add, mul-le-mul}
 use native.Mathlib.Numerals.{sub-one}
 use native.Mathlib.Omega.{arith}
-use borrow.Author.Tests.{lt-ltb, le-ltb}
 use lib.IntN.{ℤ, _+ℤ_, _-ℤ_}
 use lib.ListN.{length, drop, set, length-append}
 use lib.Seq.{sets, sets-eq}
@@ -14,23 +13,30 @@ use lib.Signed.{ltZ}
 use Rattle.whole.proofs.Linear.{linear, sum, diff, opp, times, abs-le}
 use Rattle.whole.proofs.Bounds.{abs-add}
 use Rattle.shapes.specs.declared.Point.{Point}
-use Rattle.shapes.specs.Limits.{widthLimit}
-use Rattle.shapes.specs.Shape.{plus}
+use Rattle.shapes.specs.declared.Line.{Line}
+use Rattle.shapes.specs.declared.Offset.{Offset}
+use Rattle.shapes.specs.declared.Offset.the-variants as offset
+use Rattle.shapes.specs.Limits.{lineLimit}
+use Rattle.shapes.specs.Shape.{LineNear, plus, delta}
+use Rattle.shapes.proofs.Laws.{near-delta}
 use Rattle.bresenham.specs.declared.Parameters.{Parameters}
 use Rattle.bresenham.specs.declared.Bresenham.{Bresenham}
-use Rattle.bresenham.specs.Walk.{Fair, Placed, turned, handed, nextOf}
+use Rattle.bresenham.specs.Points.{pointsFrom, majorLength}
+use Rattle.bresenham.specs.Walk.{Fair, Placed, turned, handed, nextOf, parametersOf}
+use Rattle.bresenham.proofs.Laws.{threshold-natural}
 use Rattle.parallels.specs.declared.Plan.{Plan}
 use Rattle.parallels.specs.declared.Parallels.{Parallels}
 use Rattle.parallels.specs.declared.Parallel.{Parallel}
-use Rattle.thick_points.specs.declared.Listed.{Listed}
-use Rattle.parallels.specs.Parallels.{deltaLimit, Bounded, Sound, Begun, isDone, yieldOf, parallels}
-use Rattle.thick_points.specs.Listing.{pointsFrom, lengthOn, thickFrom, numbersOf, parallelNumbers, pointNumbers, listed, listRefusal, answered, written, Walk}
+use Rattle.parallels.specs.Parallels.{deltaLimit, thickLimit, Bounded, Sound, Begun, planOf, isDone, yieldOf, parallels, parallelsOf}
 use Rattle.parallels.proofs.Laws.{yield-away, yield-took, parallels-most, parallels-end}
 use Rattle.parallels.proofs.Room.{near-away, begun-turn}
+use Rattle.thick_points.specs.declared.inner.Telling.{Telling}
+use Rattle.thick_points.specs.declared.inner.Telling.the-variants.{Start, Points}
+use Rattle.thick_points.specs.Listing.{lengthOn, thickFrom, thickPointsOf, parallelNumbers, pointNumbers, listed, sizeOf, toldOf, toldAll, toldNumbers, Walk}
 
 -- ---- stores, one after the other
 
-pub sets-append : (l : List ℤ) (i : ℕ) (xs ys : List ℤ) → sets l i (xs ++ ys) ≡ sets (sets l i xs) (i + length xs) ys
+sets-append : (l : List ℤ) (i : ℕ) (xs ys : List ℤ) → sets l i (xs ++ ys) ≡ sets (sets l i xs) (i + length xs) ys
 sets-append l i [] ys = ap (λ k. sets l k ys) (omega arith)
 sets-append l i (a ∷ xs) ys = sets-append (set l i a) (suc i) xs ys ∙ ap (λ k. sets (sets (set l i a) (suc i) xs) k ys) (omega arith)
 
@@ -48,89 +54,103 @@ unfolding pointNumbers
 points-length [] = refl
 points-length (q ∷ qs) = omega (arith, points-length qs)
 
-pub points-append : (xs ys : List Point) → pointNumbers (xs ++ ys) ≡ pointNumbers xs ++ pointNumbers ys
+points-append : (xs ys : List Point) → pointNumbers (xs ++ ys) ≡ pointNumbers xs ++ pointNumbers ys
 unfolding pointNumbers
 points-append [] ys = refl
 points-append (a ∷ xs) ys = rw (points-append xs ys)
 
--- ---- the parallels, one turn of their listing
+-- ---- the points of a walk
 
-pub parallel-turn : {plan : Plan} {s : Parallels} (out : List ℤ) (at : ℕ) → Sound widthLimit plan → Begun widthLimit plan s → isDone plan s ≡ false
-    → sets out at (parallelNumbers (parallels plan s)) ≡ sets (sets out at (numbersOf (yieldOf plan s .parallel))) (at + 4) (parallelNumbers (parallels plan (yieldOf plan s .state)))
-unfolding parallelNumbers
-parallel-turn {plan} {s} out at h b e =
-    ap (λ ps. sets out at (parallelNumbers ps)) (begun-turn h b e)
-    ∙ sets-append out at (numbersOf (yieldOf plan s .parallel)) (parallelNumbers (parallels plan (yieldOf plan s .state)))
-
-pub length-turn : {plan : Plan} {s : Parallels} → Sound widthLimit plan → Begun widthLimit plan s → isDone plan s ≡ false → length (parallels plan s) ≡ suc (length (parallels plan (yieldOf plan s .state)))
-length-turn h b e = ap length (begun-turn h b e)
-
-pub length-most : {plan : Plan} {s : Parallels} → Sound widthLimit plan → Begun widthLimit plan s → length (parallels plan s) ≤ 4 * widthLimit + 4
-length-most {plan} {s} h b = parallels-most widthLimit plan h (b .origin) s (b .going)
-
--- ---- the points of a parallel
-
-pub from-length : (n : ℕ) (along : Parameters) (b : Bresenham) → length (pointsFrom n along b) ≡ n
+from-length : (n : ℕ) (along : Parameters) (b : Bresenham) → length (pointsFrom n along b) ≡ n
 unfolding pointsFrom
 from-length zero along b = refl
 from-length (suc n) along b = ap suc (from-length n along (nextOf along b .state))
 
-pub from-end : (n : ℕ) (along : Parameters) (b : Bresenham) → n ≤ 0 → pointsFrom n along b ≡ []
-unfolding pointsFrom
-from-end zero along b h = refl
-from-end (suc n) along b h = absurd (omega arith)
+-- a line has at least one point, and not many
+pub length-few : {l : Line} → LineNear lineLimit l → (1 ≤ majorLength l) × (majorLength l ≤ 65536)
+unfolding majorLength parametersOf
+length-few {l} h = (omega arith, omega (arith, threshold-natural (delta l) (near-delta h) .1))
 
-pub from-turn : (n : ℕ) (along : Parameters) (b : Bresenham) → 0 < n → pointsFrom n along b ≡ nextOf along b .point ∷ pointsFrom (n - 1) along (nextOf along b .state)
-unfolding pointsFrom
-from-turn zero along b h = absurd (omega arith)
-from-turn (suc n) along b h = rw sub-one
+pub point-end : (out : List ℤ) (at n : ℕ) (along : Parameters) (b : Bresenham) → n ≤ 0 → sets out at (pointNumbers (pointsFrom n along b)) ≡ out
+unfolding pointNumbers pointsFrom
+point-end out at zero along b h = refl
+point-end out at (suc n) along b h = absurd (omega arith)
 
 pub point-turn : (out : List ℤ) (at n : ℕ) (along : Parameters) (b : Bresenham) → 0 < n
     → sets out at (pointNumbers (pointsFrom n along b)) ≡ sets (sets out at (nextOf along b .point .x ∷ nextOf along b .point .y ∷ [])) (at + 2) (pointNumbers (pointsFrom (n - 1) along (nextOf along b .state)))
-unfolding pointNumbers
-point-turn out at n along b h =
+unfolding pointNumbers pointsFrom
+point-turn out at zero along b h = absurd (omega arith)
+point-turn out at (suc n) along b h =
     let q = nextOf along b .point in
-    ap (λ qs. sets out at (pointNumbers qs)) (from-turn n along b h)
-    ∙ sets-append out at (q .x ∷ q .y ∷ []) (pointNumbers (pointsFrom (n - 1) along (nextOf along b .state)))
+    rw sub-one (sets-append out at (q .x ∷ q .y ∷ []) (pointNumbers (pointsFrom n along (nextOf along b .state))))
 
-pub point-end : (out : List ℤ) (at n : ℕ) (along : Parameters) (b : Bresenham) → n ≤ 0 → sets out at (pointNumbers (pointsFrom n along b)) ≡ out
-unfolding pointNumbers
-point-end out at n along b h = rw (from-end n along b h)
+-- ---- what is told of each parallel
 
--- the points of the parallels, one parallel of them
-pub thick-turn : {plan : Plan} {s : Parallels} (n : ℕ) (along : Parameters) → Sound widthLimit plan → Begun widthLimit plan s → isDone plan s ≡ false
-    → thickFrom n along (parallels plan s) ≡ pointsFrom (lengthOn n (yieldOf plan s .parallel .extra)) along (yieldOf plan s .parallel .start) ++ thickFrom n along (parallels plan (yieldOf plan s .state))
-unfolding thickFrom
-thick-turn n along h b e = ap (thickFrom n along) (begun-turn h b e)
+told-size : (telling : Telling) (n : ℕ) (along : Parameters) (p : Parallel) → length (toldOf telling n along p) ≡ sizeOf telling n (p .extra)
+told-size Start n along p = refl
+told-size Points n along p = points-length (pointsFrom (lengthOn n (p .extra)) along (p .start)) ∙ ap (λ k. 2 * k) (from-length (lengthOn n (p .extra)) along (p .start))
 
-pub thick-length : {plan : Plan} {s : Parallels} (n : ℕ) (along : Parameters) → Sound widthLimit plan → Begun widthLimit plan s → isDone plan s ≡ false
-    → length (thickFrom n along (parallels plan s)) ≡ lengthOn n (yieldOf plan s .parallel .extra) + length (thickFrom n along (parallels plan (yieldOf plan s .state)))
-thick-length {plan} {s} n along h b e =
-    let p = yieldOf plan s .parallel in
-    ap length (thick-turn n along h b e) ∙ (length-append (pointsFrom (lengthOn n (p .extra)) along (p .start)) _ ∙ rw (from-length (lengthOn n (p .extra)) along (p .start)))
+told-starts : (n : ℕ) (along : Parameters) (ps : List Parallel) → toldAll Start n along ps ≡ parallelNumbers ps
+unfolding toldAll parallelNumbers
+told-starts n along [] = refl
+told-starts n along (p ∷ ps) = rw (told-starts n along ps)
 
-pub thick-listed : {plan : Plan} {s : Parallels} (out : List ℤ) (at n : ℕ) (along : Parameters) → Sound widthLimit plan → Begun widthLimit plan s → isDone plan s ≡ false
-    → sets out at (pointNumbers (thickFrom n along (parallels plan s))) ≡ sets (sets out at (pointNumbers (pointsFrom (lengthOn n (yieldOf plan s .parallel .extra)) along (yieldOf plan s .parallel .start)))) (at + 2 * lengthOn n (yieldOf plan s .parallel .extra)) (pointNumbers (thickFrom n along (parallels plan (yieldOf plan s .state))))
-thick-listed {plan} {s} out at n along h b e =
-    let p = yieldOf plan s .parallel in
-    let k = lengthOn n (p .extra) in
-    let qs = pointsFrom k along (p .start) in
-    let rest = thickFrom n along (parallels plan (yieldOf plan s .state)) in
-    ap (λ l. sets out at (pointNumbers l)) (thick-turn n along h b e)
-    ∙ (ap (sets out at) (points-append qs rest)
-    ∙ (sets-append out at (pointNumbers qs) (pointNumbers rest)
-    ∙ ap (λ i. sets (sets out at (pointNumbers qs)) (at + i) (pointNumbers rest)) (points-length qs ∙ ap (λ i. 2 * i) (from-length k along (p .start)))))
+told-points : (n : ℕ) (along : Parameters) (ps : List Parallel) → toldAll Points n along ps ≡ pointNumbers (thickFrom n along ps)
+unfolding toldAll thickFrom pointNumbers
+told-points n along [] = refl
+told-points n along (p ∷ ps) = rw (points-append (pointsFrom (lengthOn n (p .extra)) along (p .start)) (thickFrom n along ps), told-points n along ps)
 
--- how many points at most
-length-on-most : (n : ℕ) (t : Bool) → lengthOn n t ≤ n
-length-on-most n true = omega arith
-length-on-most n false = omega arith
+-- of a line
+pub line-starts : (l : Line) (width : ℤ) (offset : Offset) → toldNumbers Start l width offset ≡ parallelNumbers (parallelsOf l width offset)
+unfolding toldNumbers
+line-starts l width offset = told-starts (majorLength l) (planOf l width offset .parallel) (parallelsOf l width offset)
 
-pub thick-most : (n : ℕ) (along : Parameters) (ps : List Parallel) → length (thickFrom n along ps) ≤ n * length ps
-unfolding thickFrom
-thick-most n along [] = omega arith
-thick-most n along (p ∷ ps) =
-    omega (arith, length-append (pointsFrom (lengthOn n (p .extra)) along (p .start)) (thickFrom n along ps), from-length (lengthOn n (p .extra)) along (p .start), length-on-most n (p .extra), thick-most n along ps)
+pub line-points : (l : Line) (width : ℤ) → toldNumbers Points l width offset.None ≡ pointNumbers (thickPointsOf l width)
+unfolding toldNumbers thickPointsOf
+line-points l width = told-points (majorLength l) (planOf l width offset.None .parallel) (parallelsOf l width offset.None)
+
+-- at most so many numbers
+pub size-most : (telling : Telling) (n : ℕ) (t : Bool) → sizeOf telling n t ≤ 2 * n + 4
+size-most Start n t = omega arith
+size-most Points n true = omega arith
+size-most Points n false = omega arith
+
+told-most : (telling : Telling) (n : ℕ) (along : Parameters) (ps : List Parallel) → length (toldAll telling n along ps) ≤ (2 * n + 4) * length ps
+unfolding toldAll
+told-most telling n along [] = omega arith
+told-most telling n along (p ∷ ps) =
+    omega (arith, length-append (toldOf telling n along p) (toldAll telling n along ps), told-size telling n along p, size-most telling n (p .extra), told-most telling n along ps)
+
+pub told-end : (telling : Telling) (n : ℕ) (along : Parameters) (plan : Plan) (s : Parallels) → isDone plan s ≡ true → toldAll telling n along (parallels plan s) ≡ []
+unfolding toldAll
+told-end telling n along plan s e = rw (parallels-end plan s e)
+
+module _ {plan : Plan} {s : Parallels} (h : Sound thickLimit plan) (b : Begun thickLimit plan s) (telling : Telling) (n : ℕ) where
+  abbrev along : Parameters
+  along = plan .parallel
+
+  abbrev told : Parallels → List ℤ
+  told s = toldAll telling n along (parallels plan s)
+
+  abbrev first : Parallel
+  first = yieldOf plan s .parallel
+
+  abbrev after : Parallels
+  after = yieldOf plan s .state
+
+  pub told-few : n ≤ 65536 → length (told s) ≤ 2 ^ 30
+  told-few few =
+      omega (arith, told-most telling n along (parallels plan s), mul-le-mul {n₁ = 2 * n + 4} {n₂ = 131076} (omega arith) (parallels-most thickLimit plan h (b .origin) s (b .going)))
+
+  told-turn : isDone plan s ≡ false → told s ≡ toldOf telling n along first ++ told after
+  unfolding toldAll
+  told-turn e = ap (toldAll telling n along) (begun-turn h b e)
+
+  pub told-length : isDone plan s ≡ false → length (told s) ≡ sizeOf telling n (first .extra) + length (told after)
+  told-length e = ap length (told-turn e) ∙ (length-append (toldOf telling n along first) (told after) ∙ rw (told-size telling n along first))
+
+  pub told-stored : (out : List ℤ) (at : ℕ) → isDone plan s ≡ false → sets out at (told s) ≡ sets (sets out at (toldOf telling n along first)) (at + sizeOf telling n (first .extra)) (told after)
+  told-stored out at e = ap (sets out at) (told-turn e) ∙ (sets-append out at (toldOf telling n along first) (told after) ∙ rw (told-size telling n along first))
 
 -- ---- a walk along a parallel has room
 
@@ -175,50 +195,16 @@ module _ (along : Parameters) (f : Fair deltaLimit along) (n : ℕ) (b : Bresenh
   pub walk-next : 0 < n → Walk (n - 1) along (nextOf along b .state)
   walk-next some = walk-by (ltZ (along .threshold) (b .error)) refl some
 
-yield-bounded : {plan : Plan} {s : Parallels} → Sound widthLimit plan → Begun widthLimit plan s → Bounded (plan .parallel) (yieldOf plan s .parallel .start .error)
+yield-bounded : {plan : Plan} {s : Parallels} → Sound thickLimit plan → Begun thickLimit plan s → Bounded (plan .parallel) (yieldOf plan s .parallel .start .error)
 unfolding yieldOf
-yield-bounded {plan} {s} h g = yield-took widthLimit plan h (g .origin) s (g .going) .first-bounded
+yield-bounded {plan} {s} h g = yield-took thickLimit plan h (g .origin) s (g .going) .first-bounded
 
 -- a parallel that follows can be walked along
-pub walk-yield : {plan : Plan} {s : Parallels} (n : ℕ) → Sound widthLimit plan → Begun widthLimit plan s → isDone plan s ≡ false → n ≤ 65536 → Walk (lengthOn n (yieldOf plan s .parallel .extra)) (plan .parallel) (yieldOf plan s .parallel .start)
+pub walk-yield : {plan : Plan} {s : Parallels} (n : ℕ) → Sound thickLimit plan → Begun thickLimit plan s → isDone plan s ≡ false → n ≤ 65536 → Walk (lengthOn n (yieldOf plan s .parallel .extra)) (plan .parallel) (yieldOf plan s .parallel .start)
 walk-yield {plan} {s} n h g e le =
-    let near = near-away (g .origin-near) (yield-away widthLimit plan h (g .origin) s (g .going) e) in
-    let short = length-on-most n (yieldOf plan s .parallel .extra) in
+    let near = near-away (g .origin-near) (yield-away thickLimit plan h (g .origin) s (g .going) e) in
+    let short = size-most Points n (yieldOf plan s .parallel .extra) in
     let bounded = yield-bounded h g in
     let fair = h .along-fair in
     let top = sum (plan .parallel .threshold) (plan .parallel .gain) in
     record { x-room = omega (arith, near .x-near .bound); y-room = omega (arith, near .y-near .bound); low = bounded .above; high = omega linear }
-
--- ---- where no parallel follows
-
-pub parallel-end : (plan : Plan) (s : Parallels) (out : List ℤ) (at : ℕ) → isDone plan s ≡ true → sets out at (parallelNumbers (parallels plan s)) ≡ out
-unfolding parallelNumbers
-parallel-end plan s out at e = rw (parallels-end plan s e)
-
-pub thick-end : (plan : Plan) (s : Parallels) (out : List ℤ) (at n : ℕ) (along : Parameters) → isDone plan s ≡ true → sets out at (pointNumbers (thickFrom n along (parallels plan s))) ≡ out
-unfolding thickFrom pointNumbers
-thick-end plan s out at n along e = rw (parallels-end plan s e)
-
-pub thick-none : (plan : Plan) (s : Parallels) (n : ℕ) (along : Parameters) → isDone plan s ≡ true → length (thickFrom n along (parallels plan s)) ≡ 0
-unfolding thickFrom
-thick-none plan s n along e = rw (parallels-end plan s e)
-
--- ---- what an entry answers: n is the refusal of the line and its width
-
-abbrev pub answer : ℕ → ℕ → Listed
-answer n k = record { refusal = n; count = k }
-
-abbrev pub Answers : ℕ → List ℤ → List ℤ → ℕ → Listed → List ℤ → Type 0
-Answers n ns out k r after = (r ≡ answered (listRefusal n ns out) k) × (after ≡ written (listRefusal n ns out) ns out)
-
-pub refused-first : (n : ℕ) (ns out : List ℤ) (k : ℕ) → 0 < n → Answers n ns out k (answer n 0) out
-unfolding listRefusal answered written
-refused-first n ns out k h = rw (lt-ltb 0 n h, lt-ltb 0 n h) (refl, refl)
-
-pub refused-short : (ns out : List ℤ) (k : ℕ) → length out < length ns → Answers 0 ns out k (answer 8 0) out
-unfolding listRefusal answered written
-refused-short ns out k h = rw (lt-ltb (length out) (length ns) h) (refl, refl)
-
-pub listed-all : (ns out : List ℤ) (k : ℕ) → length ns ≤ length out → Answers 0 ns out k (answer 0 k) (sets out 0 ns)
-unfolding listRefusal answered written
-listed-all ns out k h = rw (le-ltb (length out) (length ns) h) (refl, sets-listed out ns h)

@@ -14,19 +14,18 @@ use Rattle.whole.proofs.Linear.{linear}
 use Rattle.whole.proofs.Spans.{within-low, within-high, within-of}
 use Rattle.whole.proofs.Tests.{eqb-iff, Chosen, chosen, chosen-exactly}
 use Rattle.scanline.specs.Spans.{newSpan}
-use Rattle.scanline.specs.Words.{Sound}
-use Rattle.scanline.specs.Answers.{spanned}
+use Rattle.shapes.specs.Spans.{Sound}
 use Rattle.thick_segment.specs.declared.Segment.{Segment}
 use Rattle.thick_segment.specs.Segments.{SegmentNear, isSegmentNear, isSkeleton, edgesOf, boundingBox, rowsOf, perimeterOf, countOf, spanOn}
 use Rattle.thick_segment.specs.Words.{HasRow}
-use Rattle.thick_segment.specs.Answers.{noEdges, noBox, skeletonAnswer, edgesAnswer, boxAnswer, perimeterAnswer, countAnswer, spanRefusal, spanAnswer}
+use Rattle.thick_segment.specs.Answers.{noEdges, noBox, spanned, skeletonAnswer, edgesAnswer, boxAnswer, perimeterAnswer, countAnswer, segmentRefusal, spanAnswer}
 use Rattle.thick_segment.proofs.Refused.{segment-near-iff, segment-none}
 use Rattle.thick_segment.proofs.Laws.{span-sound, box-near}
 
 module _ (k : ℕ) (s : Segment) where
   -- ---- the answers, and 5 exactly when a join has a corner beyond the limit
 
-  pub skeleton-chosen : Chosen (SegmentNear k s) (skeletonAnswer k s) (record { refusal = 0; holds = isSkeleton s }) (record { refusal = 5; holds = false })
+  pub skeleton-chosen : Chosen (SegmentNear k s) (skeletonAnswer k s) (record { refusal = 0; skeleton = isSkeleton s }) (record { refusal = 5; skeleton = false })
   unfolding skeletonAnswer
   skeleton-chosen = chosen (isSegmentNear k s) _ _ (segment-near-iff k s)
 
@@ -76,17 +75,17 @@ module _ (k : ℕ) (s : Segment) where
   -- ---- the span
 
   module _ (row : ℤ) where
-    pub span-chosen : Chosen (spanRefusal k s row ≡ 0) (spanAnswer k s row) (spanned 0 (spanOn s row)) (spanned (spanRefusal k s row) (newSpan (pos 0)))
+    pub span-chosen : Chosen (segmentRefusal k s row ≡ 0) (spanAnswer k s row) (spanned 0 (spanOn s row)) (spanned (segmentRefusal k s row) (newSpan (pos 0)))
     unfolding spanAnswer
-    span-chosen = chosen (eqb (spanRefusal k s row) 0) _ _ (eqb-iff (spanRefusal k s row) 0)
+    span-chosen = chosen (eqb (segmentRefusal k s row) 0) _ _ (eqb-iff (segmentRefusal k s row) 0)
 
-    refusal-by : (t : Bool) → eqb (spanRefusal k s row) 0 ≡ t → spanAnswer k s row .refusal ≡ spanRefusal k s row
+    refusal-by : (t : Bool) → eqb (segmentRefusal k s row) 0 ≡ t → spanAnswer k s row .refusal ≡ segmentRefusal k s row
     unfolding spanAnswer
-    refusal-by true e = rw e (sym (eqb-true (spanRefusal k s row) 0 e))
+    refusal-by true e = rw e (sym (eqb-true (segmentRefusal k s row) 0 e))
     refusal-by false e = rw e
 
-    pub span-refusal : spanAnswer k s row .refusal ≡ spanRefusal k s row
-    span-refusal = refusal-by (eqb (spanRefusal k s row) 0) refl
+    pub span-refusal : spanAnswer k s row .refusal ≡ segmentRefusal k s row
+    span-refusal = refusal-by (eqb (segmentRefusal k s row) 0) refl
 
     -- every column of an accepted segment's span is within the columns
     pub span-columns : spanAnswer k s row .refusal ≡ 0 → Sound k (spanAnswer k s row .span)

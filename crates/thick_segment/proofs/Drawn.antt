@@ -1,28 +1,44 @@
--- The lines of a segment that are drawn: six at most, and each within the limit of the joins' corners. Assumes nothing.
+-- The lines of a segment that are drawn: six at most, each as near as the joins' corners, and none above or below them. Assumes nothing.
 use mathlib.Core.Path.{_≡_, refl}
+use mathlib.Core.Logic.{_⊎_, ⊎-elim}
 use mathlib.Core.Bool.{Bool, true, false}
-use mathlib.Core.List.{List, _++_}
+use mathlib.Core.List.{List, [], _∷_, _++_}
 use Prim.Native.Nat.{ℕ, _≤_}
 use native.Mathlib.Omega.{arith}
 use lib.Dec.{lit≤}
+use lib.IntN.{ℤ}
 use lib.ListN.{length, length-append}
+use lib.Signed.{_≤ℤ_, _<ℤ_}
+use Rattle.whole.specs.Number.{lesser, greater}
+use Rattle.whole.proofs.Laws.{lesser-le, le-greater, lesser-one, greater-one}
+use Rattle.whole.proofs.Linear.{linear}
+use Rattle.whole.proofs.Middle.{mid-low, mid-high, mid-within}
+use Rattle.whole.proofs.Orders.{ordered}
+use Rattle.whole.proofs.Tests.{else-false}
+use Rattle.shapes.specs.declared.Point.{Point}
 use Rattle.shapes.specs.declared.Line.{Line}
-use Rattle.shapes.specs.Limits.{cornerLimit, lineLimit}
-use Rattle.shapes.specs.Shape.{Near, LineNear, plus, minus, delta, midpoint}
-use Rattle.shapes.proofs.Laws.{line-near-more}
+use Rattle.shapes.specs.declared.Side.{Side}
+use Rattle.shapes.specs.declared.Side.the-variants.{Left, Right}
+use Rattle.shapes.specs.declared.Span.{Span}
+use Rattle.shapes.specs.Shape.{lineOf, Near, plus, minus, delta, midpoint}
+use Rattle.shapes.proofs.Laws.{line-of-near}
+use Rattle.scanline.specs.Spans.{newSpan}
+use Rattle.scanline.specs.Meeting.{met}
+use Rattle.scanline.specs.Rows.{hasRow}
+use Rattle.scanline.proofs.Rows.{row-exactly}
+use Rattle.scanline.proofs.Laws.{met-off}
+use Rattle.line_join.specs.declared.Kind.{Kind}
+use Rattle.line_join.specs.declared.Kind.the-variants.{Miter, Bevel, Degenerate, Colinear, Start, End}
 use Rattle.line_join.specs.declared.Corners.{Corners}
 use Rattle.line_join.specs.declared.Join.{Join}
-use Rattle.line_join.specs.declared.Filler.{Filler}
-use Rattle.line_join.specs.declared.Filler.the-variants.{Filled, Nothing}
-use Rattle.line_join.specs.declared.Filler.the-variants as filler
+use Rattle.line_join.specs.declared.Filler.the-variants.{Filled}
 use Rattle.line_join.specs.declared.Caps.{Caps}
 use Rattle.line_join.specs.declared.Caps.the-variants.{One, Two, Refused}
-use Rattle.line_join.specs.Caps.{CornersNear, JoinNear, cappedBy, fillerOf, capOf, startCapsOf, endCapsOf}
-use Rattle.line_join.proofs.Room.{FillerNear, filler-near, line-of-near}
-use Rattle.thick_segment.proofs.Numbers.{mid-within}
+use Rattle.line_join.specs.Join.{outer}
+use Rattle.line_join.specs.Caps.{JoinNear, between, fillerBy, cappedBy, fillerOf, capOf, startCapsOf, endCapsOf}
 use Rattle.thick_segment.proofs.Scanned.{Each, none, more}
 use Rattle.thick_segment.specs.declared.Segment.{Segment}
-use Rattle.thick_segment.specs.Segments.{SegmentNear, isSkeleton, capLines, edgesOf, drawn}
+use Rattle.thick_segment.specs.Segments.{SegmentNear, topOf, bottomOf, isSkeleton, capLines, edgesOf, drawn, metAll, spanOn}
 
 pub caps-most : (k : Caps) → length (capLines k) ≤ 2
 caps-most (One l) = lit≤ tt
@@ -37,45 +53,115 @@ drawn-by s false e = rw (e, length-append, length-append) (omega (arith, caps-mo
 pub drawn-most : (s : Segment) → length (drawn s) ≤ 6
 drawn-most s = drawn-by s (isSkeleton s) refl
 
+-- ---- what holds of all corners, and of the middle of two points where it holds of both, holds of the ends of each drawn line
+
+module _ (P : Point → Type 0) where
+  record CornersHave (c : Corners) : Type 0 where
+    left : P (c .left)
+    right : P (c .right)
+
+  record JoinHas (j : Join) : Type 0 where
+    ending : CornersHave (j .ending)
+    starting : CornersHave (j .starting)
+
+  data Ends : List Line → Type 0 where
+    no-lines : Ends []
+    and-line : {l : Line} {ls : List Line} → P (l .start) → P (l .end) → Ends ls → Ends (l ∷ ls)
+
+  ends-append : {xs ys : List Line} → Ends xs → Ends ys → Ends (xs ++ ys)
+  ends-append no-lines f = f
+  ends-append (and-line p q e) f = and-line p q (ends-append e f)
+
+  outer-has : (s : Side) {c : Corners} → CornersHave c → P (outer s c)
+  outer-has Left h = h .left
+  outer-has Right h = h .right
+
+  module _ (middle : (l : Line) → P (l .start) → P (l .end) → P (midpoint l)) where
+    one-cap : {c : Corners} → CornersHave c → Ends (lineOf (c .left) (c .right) ∷ [])
+    one-cap h = and-line (h .left) (h .right) no-lines
+
+    two-caps : (s : Side) (j : Join) {c : Corners} → JoinHas j → CornersHave c → Ends (capLines (cappedBy (Filled (between s (j .ending) (j .starting))) c))
+    two-caps s j g h =
+        let m = middle (between s (j .ending) (j .starting)) (outer-has s (g .ending)) (outer-has s (g .starting)) in
+        and-line (h .left) m (and-line m (h .right) no-lines)
+
+    caps-by : (k : Kind) (j : Join) {c : Corners} → JoinHas j → CornersHave c → Ends (capLines (cappedBy (fillerBy k (j .ending) (j .starting)) c))
+    caps-by Miter j g h = one-cap h
+    caps-by (Bevel s) j g h = two-caps s j g h
+    caps-by (Degenerate s) j g h = two-caps s j g h
+    caps-by Colinear j g h = one-cap h
+    caps-by Start j g h = one-cap h
+    caps-by End j g h = one-cap h
+
+    caps-have : (j : Join) {c : Corners} → JoinHas j → CornersHave c → Ends (capLines (capOf j c))
+    unfolding capOf fillerOf
+    caps-have j g h = caps-by (j .kind) j g h
+
+    drawn-have : (s : Segment) (t : Bool) → isSkeleton s ≡ t → JoinHas (s .start) → JoinHas (s .end) → Ends (drawn s)
+    unfolding drawn edgesOf startCapsOf endCapsOf
+    drawn-have s true e a b = rw e (and-line (a .starting .right) (b .ending .right) no-lines)
+    drawn-have s false e a b =
+        rw e (ends-append (caps-have (s .start) a (a .starting)) (ends-append (caps-have (s .end) b (b .ending)) (and-line (a .starting .right) (b .ending .right) (and-line (b .ending .left) (a .starting .left) no-lines))))
+
 -- ---- each is as near as the corners
 
-each-append : {k : ℕ} {xs ys : List Line} → Each k xs → Each k ys → Each k (xs ++ ys)
-each-append none f = f
-each-append (more h e) f = more h (each-append e f)
-
-mid-near : {k : ℕ} {l : Line} → LineNear k l → Near k (midpoint l)
+mid-near : {k : ℕ} (l : Line) → Near k (l .start) → Near k (l .end) → Near k (midpoint l)
 unfolding midpoint plus delta minus
-mid-near h =
-    record { x-near = mid-within (h .start-near .x-near) (h .end-near .x-near); y-near = mid-within (h .start-near .y-near) (h .end-near .y-near) }
+mid-near l p q = record { x-near = mid-within (p .x-near) (q .x-near); y-near = mid-within (p .y-near) (q .y-near) }
 
-filled : {k : ℕ} (f : Filler) (c : Corners) → CornersNear k c → FillerNear k f → Each k (capLines (cappedBy f c))
-filled (Filled l) c h near =
-    let mid = mid-near near in
-    more (line-of-near (h .left-near) mid) (more (line-of-near mid (h .right-near)) none)
-filled Nothing c h near = more (line-of-near (h .left-near) (h .right-near)) none
-filled (filler.Refused n) c h near = more (line-of-near (h .left-near) (h .right-near)) none
+near-has : {k : ℕ} {j : Join} → JoinNear k j → JoinHas (Near k) j
+near-has h = record { ending = record { left = h .ending-near .left-near; right = h .ending-near .right-near }; starting = record { left = h .starting-near .left-near; right = h .starting-near .right-near } }
 
-caps-near : {k : ℕ} (j : Join) (c : Corners) → JoinNear k j → CornersNear k c → Each k (capLines (capOf j c))
-unfolding capOf
-caps-near j c h near = filled (fillerOf j) c near (filler-near h)
-
-near-by : {k : ℕ} (s : Segment) (t : Bool) → isSkeleton s ≡ t → SegmentNear k s → Each k (drawn s)
-unfolding drawn edgesOf startCapsOf endCapsOf
-near-by s true e h = rw e (more (line-of-near (h .start-near .starting-near .right-near) (h .end-near .ending-near .right-near)) none)
-near-by s false e h =
-    let a = h .start-near in
-    let b = h .end-near in
-    let right = line-of-near (a .starting-near .right-near) (b .ending-near .right-near) in
-    let left = line-of-near (b .ending-near .left-near) (a .starting-near .left-near) in
-    rw e (each-append (caps-near (s .start) (s .start .starting) a (a .starting-near)) (each-append (caps-near (s .end) (s .end .ending) b (b .ending-near)) (more right (more left none))))
+ends-near : {k : ℕ} {ls : List Line} → Ends (Near k) ls → Each k ls
+ends-near no-lines = none
+ends-near (and-line p q e) = more (line-of-near p q) (ends-near e)
 
 pub drawn-near : {k : ℕ} (s : Segment) → SegmentNear k s → Each k (drawn s)
-drawn-near s h = near-by s (isSkeleton s) refl h
+drawn-near s h = ends-near (drawn-have (Near _) mid-near s (isSkeleton s) refl (near-has (h .start-near)) (near-has (h .end-near)))
 
-each-more : {j k : ℕ} {ls : List Line} → j ≤ k → Each j ls → Each k ls
-each-more le none = none
-each-more le (more h e) = more (line-near-more h le) (each-more le e)
+-- ---- and lies between the first and the last row of the corners
 
--- near enough to be met
-pub drawn-room : (s : Segment) → SegmentNear cornerLimit s → Each lineLimit (drawn s)
-drawn-room s h = each-more (lit≤ tt) (drawn-near s h)
+record Rows (first last : ℤ) (p : Point) : Type 0 where
+  low : first ≤ℤ p .y
+  high : p .y ≤ℤ last
+
+mid-rows : {first last : ℤ} (l : Line) → Rows first last (l .start) → Rows first last (l .end) → Rows first last (midpoint l)
+unfolding midpoint plus delta minus
+mid-rows l p q = record { low = mid-low (p .low) (q .low); high = mid-high (p .high) (q .high) }
+
+rows-have : (j : Join) {first last : ℤ} → first ≤ℤ topOf j → bottomOf j ≤ℤ last → JoinHas (Rows first last) j
+unfolding topOf bottomOf
+rows-have j {first} {last} p q =
+    let a = j .ending in
+    let b = j .starting in
+    let l = lesser-le (lesser (a .left .y) (a .right .y)) (lesser (b .left .y) (b .right .y)) in
+    let la = lesser-le (a .left .y) (a .right .y) in
+    let lb = lesser-le (b .left .y) (b .right .y) in
+    let g = le-greater (greater (a .left .y) (a .right .y)) (greater (b .left .y) (b .right .y)) in
+    let ga = le-greater (a .left .y) (a .right .y) in
+    let gb = le-greater (b .left .y) (b .right .y) in
+    record {
+      ending = record { left = record { low = omega linear; high = omega linear }; right = record { low = omega linear; high = omega linear } };
+      starting = record { left = record { low = omega linear; high = omega linear }; right = record { low = omega linear; high = omega linear } };
+    }
+
+-- a row above or below the rows of both ends is not met
+beside : (t : Span) (l : Line) {first last : ℤ} → Rows first last (l .start) → Rows first last (l .end) → (t .row <ℤ first) ⊎ (last <ℤ t .row) → met t l ≡ t
+beside t l p q out =
+    met-off t l (else-false (hasRow l (t .row)) (λ e.
+    let on = row-exactly l (t .row) .0 e in
+    ⊎-elim (λ above. ⊎-elim (λ is. omega (ordered, on .low)) (λ is. omega (ordered, on .low)) (lesser-one (l .start .y) (l .end .y)))
+    (λ below. ⊎-elim (λ is. omega (ordered, on .high)) (λ is. omega (ordered, on .high)) (greater-one (l .start .y) (l .end .y))) out))
+
+all-beside : (t : Span) {first last : ℤ} {ls : List Line} → Ends (Rows first last) ls → (t .row <ℤ first) ⊎ (last <ℤ t .row) → metAll t ls ≡ t
+unfolding metAll
+all-beside t no-lines out = refl
+all-beside t {ls = l ∷ ls} (and-line p q e) out = rw (beside t l p q out) (all-beside t e out)
+
+-- so a segment has no column on a row above or below all its corners
+pub span-beside : (s : Segment) (row : ℤ) → (row <ℤ lesser (topOf (s .start)) (topOf (s .end))) ⊎ (greater (bottomOf (s .start)) (bottomOf (s .end)) <ℤ row) → spanOn s row ≡ newSpan row
+unfolding spanOn
+span-beside s row out =
+    let l = lesser-le (topOf (s .start)) (topOf (s .end)) in
+    let g = le-greater (bottomOf (s .start)) (bottomOf (s .end)) in
+    all-beside (newSpan row) (drawn-have (Rows _ _) mid-rows s (isSkeleton s) refl (rows-have (s .start) (l .0) (g .0)) (rows-have (s .end) (l .1) (g .1))) out

@@ -5,38 +5,33 @@ use mathlib.Core.Bool.{Bool, true, false}
 use mathlib.Core.List.{List, [], _∷_, _++_, List·Memᴰ, Memᴰ·cast}
 use Prim.Native.Nat.{ℕ}
 use lib.IntN.{ℤ, pos, _-ℤ_}
-use Rattle.whole.specs.Number.{eqZ}
-use Rattle.whole.proofs.Machine.{eqZ-refl}
-use Rattle.whole.proofs.Tests.{and-left, and-right}
-use Rattle.whole.proofs.Spans.{clash, eqZ-true, within-lesser, within-greater}
+use Rattle.whole.proofs.Tests.{clash}
+use Rattle.whole.proofs.Spans.{within-lesser, within-greater}
 use Rattle.shapes.specs.declared.Point.{Point}
 use Rattle.shapes.specs.declared.Line.{Line}
 use Rattle.shapes.specs.declared.Span.{Span}
 use Rattle.shapes.specs.Shape.{pointOf, Near, LineNear}
-use Rattle.scanline.specs.Spans.{newSpan, isEmpty}
-use Rattle.scanline.specs.Points.{linePoints}
+use Rattle.scanline.specs.Spans.{newSpan}
+use Rattle.shapes.specs.Spans.{isEmpty, Sound}
+use Rattle.bresenham.specs.Points.{linePoints}
 use Rattle.scanline.specs.Meeting.{seenAll, seen, met}
-use Rattle.scanline.specs.Words.{Sound, met-at, End, kept, came, Least}
-use Rattle.scanline.proofs.Folds.{covers-some, seen-least, seen-none}
+use Rattle.scanline.specs.Words.{met-at, End, kept, came, Least}
+use Rattle.shapes.proofs.Columns.{covers-some}
+use Rattle.scanline.proofs.Folds.{seen-least, seen-none}
 use Rattle.scanline.proofs.Laws.{met-sound}
-use Rattle.scanline.proofs.Lines.{same-point}
+use Rattle.shapes.proofs.Laws.{same-exactly}
 use Rattle.thick_segment.proofs.Drawn.{drawn-near}
 use Rattle.thick_segment.proofs.Scanned.{Each, none, more}
 use Rattle.thick_segment.specs.declared.Segment.{Segment}
 use Rattle.thick_segment.specs.declared.Rectangle.{Rectangle}
-use Rattle.thick_segment.specs.Segments.{SegmentNear, samePoint, isSkeleton, edgesOf, least, most, boxOf, union, boundingBox, drawn, metAll, spanOn}
+use Rattle.thick_segment.specs.Segments.{SegmentNear, isSkeleton, edgesOf, least, most, boxOf, union, boundingBox, drawn, metAll, spanOn}
 use Rattle.thick_segment.specs.Words.{pointsOf, drawnPoints, RectangleNear}
 
 -- ---- a skeleton: the left and the right of the start join's first_edge_end are equal
 
 pub skeleton-exactly : (s : Segment) → (isSkeleton s ≡ true) ↔ (s .start .ending .left ≡ s .start .ending .right)
-unfolding isSkeleton samePoint
-skeleton-exactly s =
-    let a = s .start .ending .left in
-    let b = s .start .ending .right in (
-      λ e. same-point (eqZ-true (a .x) (b .x) (and-left (eqZ (a .x) (b .x)) (eqZ (a .y) (b .y)) e)) (eqZ-true (a .y) (b .y) (and-right (eqZ (a .x) (b .x)) (eqZ (a .y) (b .y)) e)),
-      λ same. rw same (simp (eqZ-refl (b .x), eqZ-refl (b .y))),
-    )
+unfolding isSkeleton
+skeleton-exactly s = same-exactly (s .start .ending .left) (s .start .ending .right)
 
 -- ---- the span is that of all drawn points
 

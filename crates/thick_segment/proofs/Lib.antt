@@ -1,7 +1,6 @@
 pub mod Answers
 pub mod Drawn
 pub mod Laws
-pub mod Numbers
 pub mod Placed
 pub mod Refused
 pub mod Scanned

@@ -7,17 +7,17 @@ use lib.Dec.{eqb}
 use lib.IntN.{ℤ, pos}
 use Rattle.whole.specs.Number.{isWithin}
 use Rattle.shapes.specs.Refusals.{cornerRefused, rowRefused}
-use Rattle.linear_equation.specs.declared.Tested.{Tested}
-use Rattle.line_join.specs.Answers.{noPoint, noLine}
-use Rattle.scanline.specs.declared.Spanned.{Spanned}
+use Rattle.shapes.specs.Shape.{noPoint, noLine}
 use Rattle.scanline.specs.Spans.{newSpan}
-use Rattle.scanline.specs.Answers.{spanned}
+use Rattle.shapes.specs.declared.Span.{Span}
 use Rattle.thick_segment.specs.declared.Segment.{Segment}
 use Rattle.thick_segment.specs.declared.EdgePair.{EdgePair}
 use Rattle.thick_segment.specs.declared.Rectangle.{Rectangle}
 use Rattle.thick_segment.specs.declared.Edged.{Edged}
 use Rattle.thick_segment.specs.declared.Boxed.{Boxed}
 use Rattle.thick_segment.specs.declared.Counted.{Counted}
+use Rattle.thick_segment.specs.declared.Skeletal.{Skeletal}
+use Rattle.thick_segment.specs.declared.SegmentSpan.{SegmentSpan}
 use Rattle.thick_segment.specs.Segments.{isSegmentNear, isSkeleton, edgesOf, boundingBox, rowsOf, perimeterOf, countOf, spanOn}
 
 -- ---- what stands for nothing in a refusal
@@ -30,8 +30,8 @@ noBox = record { first = noPoint; last = noPoint }
 
 -- ---- the entries that can be refused with 5 alone
 
-unfoldable pub skeletonAnswer : ℕ → Segment → Tested
-skeletonAnswer k s = cond (isSegmentNear k s) (record { refusal = 0; holds = isSkeleton s }) (record { refusal = cornerRefused; holds = false })
+unfoldable pub skeletonAnswer : ℕ → Segment → Skeletal
+skeletonAnswer k s = cond (isSegmentNear k s) (record { refusal = 0; skeleton = isSkeleton s }) (record { refusal = cornerRefused; skeleton = false })
 
 unfoldable pub edgesAnswer : ℕ → Segment → Edged
 edgesAnswer k s = cond (isSegmentNear k s) (record { refusal = 0; edges = edgesOf s }) (record { refusal = cornerRefused; edges = noEdges })
@@ -48,8 +48,11 @@ countAnswer k s = cond (isSegmentNear k s) (record { refusal = 0; count = countO
 
 -- ---- the span: 5, then 6
 
-unfoldable pub spanRefusal : ℕ → Segment → ℤ → ℕ
-spanRefusal k s row = cond (isSegmentNear k s) (cond (isWithin k row) 0 rowRefused) cornerRefused
+unfoldable pub segmentRefusal : ℕ → Segment → ℤ → ℕ
+segmentRefusal k s row = cond (isSegmentNear k s) (cond (isWithin k row) 0 rowRefused) cornerRefused
 
-unfoldable pub spanAnswer : ℕ → Segment → ℤ → Spanned
-spanAnswer k s row = cond (eqb (spanRefusal k s row) 0) (spanned 0 (spanOn s row)) (spanned (spanRefusal k s row) (newSpan (pos 0)))
+abbrev pub spanned : ℕ → Span → SegmentSpan
+spanned n s = record { refusal = n; span = s }
+
+unfoldable pub spanAnswer : ℕ → Segment → ℤ → SegmentSpan
+spanAnswer k s row = cond (eqb (segmentRefusal k s row) 0) (spanned 0 (spanOn s row)) (spanned (segmentRefusal k s row) (newSpan (pos 0)))

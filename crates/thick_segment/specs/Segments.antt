@@ -4,13 +4,15 @@ use mathlib.Core.List.{List, [], _∷_, _++_}
 use Prim.Native.Nat.{ℕ, zero, suc, _+_}
 use lib.IntN.{ℤ, pos}
 use lib.ListN.{length, getD, set}
-use Rattle.whole.specs.Number.{eqZ, lesser, greater}
+use Rattle.whole.specs.Number.{lesser, greater}
 use Rattle.shapes.specs.declared.Point.{Point}
 use Rattle.shapes.specs.declared.Line.{Line}
 use Rattle.shapes.specs.declared.Span.{Span}
-use Rattle.shapes.specs.Shape.{pointOf, lineOf, LineNear}
+use Rattle.shapes.specs.Shape.{pointOf, lineOf, samePoint, LineNear}
 use Rattle.scanline.specs.Spans.{newSpan}
 use Rattle.scanline.specs.Meeting.{met}
+use Rattle.line_join.specs.declared.Corners.{Corners}
+use Rattle.line_join.specs.declared.Join.{Join}
 use Rattle.line_join.specs.declared.Caps.{Caps}
 use Rattle.line_join.specs.declared.Caps.the-variants.{One, Two, Refused}
 use Rattle.line_join.specs.Caps.{JoinNear, isJoinNear, startCapsOf, endCapsOf}
@@ -27,10 +29,23 @@ pub record SegmentNear (k : ℕ) (s : Segment) : Type 0 where
 unfoldable pub isSegmentNear : ℕ → Segment → Bool
 isSegmentNear k s = isJoinNear k (s .start) && isJoinNear k (s .end)
 
--- ---- edges
+-- ---- how far a segment goes down the screen
 
-unfoldable pub samePoint : Point → Point → Bool
-samePoint a b = eqZ (a .x) (b .x) && eqZ (a .y) (b .y)
+-- the lesser and the greater row of two corners
+abbrev pub upperOf : Corners → ℤ
+upperOf c = lesser (c .left .y) (c .right .y)
+
+abbrev pub lowerOf : Corners → ℤ
+lowerOf c = greater (c .left .y) (c .right .y)
+
+-- the least and the greatest row of a join's corners
+unfoldable pub topOf : Join → ℤ
+topOf j = lesser (upperOf (j .ending)) (upperOf (j .starting))
+
+unfoldable pub bottomOf : Join → ℤ
+bottomOf j = greater (lowerOf (j .ending)) (lowerOf (j .starting))
+
+-- ---- edges
 
 -- left and right of the start join's `first_edge_end` are equal
 unfoldable pub isSkeleton : Segment → Bool

@@ -6,7 +6,7 @@ use lib.Signed.{_≤ℤ_}
 use Rattle.shapes.specs.declared.Point.{Point}
 use Rattle.shapes.specs.declared.Line.{Line}
 use Rattle.shapes.specs.Shape.{Near}
-use Rattle.scanline.specs.Points.{linePoints}
+use Rattle.bresenham.specs.Points.{linePoints}
 use Rattle.thick_segment.specs.declared.Segment.{Segment}
 use Rattle.thick_segment.specs.declared.Rectangle.{Rectangle}
 use Rattle.thick_segment.specs.Segments.{drawn}

@@ -2,15 +2,17 @@
 ghost use mathlib.Core.Path.{_≡_};
 ghost use Prim.Native.Nat.{_≤_, _<_};
 ghost use lib.ListN.{length, take, set};
-ghost use Rattle.shapes.specs.Limits.{cornerLimit, lineLimit};
-ghost use Rattle.shapes.specs.Shape.{lineOf};
-ghost use Rattle.thick_segment.specs.Segments.{SegmentNear, isSegmentNear, samePoint, isSkeleton, edgesOf};
+ghost use Rattle.shapes.specs.Limits.{lineLimit};
+ghost use Rattle.shapes.specs.Shape.{lineOf, samePoint};
+ghost use Rattle.thick_segment.specs.Segments.{SegmentNear, isSegmentNear, upperOf, lowerOf, topOf, bottomOf, isSkeleton, edgesOf};
 ghost use Rattle.thick_segment.specs.Segments.{least as leastOf, most as mostOf, boxOf, union as unionOf, boundingBox};
 ghost use Rattle.thick_segment.specs.Segments.{coordinates as coordinatesOf, capLines, placed, countOf, lineAt, AllNear, metRows, perimeterOf, spanOn};
 use crate::EdgePair;
 use crate::Rectangle;
 use crate::Segment;
 use line_join::Caps;
+use line_join::Corners;
+use line_join::Join;
 use line_join::inner::end_caps;
 use line_join::inner::is_join_near;
 use line_join::inner::start_caps;
@@ -18,29 +20,19 @@ use scanline::inner::meet;
 use shapes::Line;
 use shapes::Point;
 use shapes::Span;
+use shapes::inner::same_point;
+use whole::inner::both;
 use whole::inner::greater;
 use whole::inner::lesser;
 
-/// Whether all corners of both joins are within 4,095: if not, the segment is refused with 5.
-pub fn is_segment_near(segment: Segment) -> bool
-    ensures { λ r. ⌜ r ≡ isSegmentNear cornerLimit segment ⌝ }
+/// Whether all corners of both joins are within `limit`: if not, the segment is refused with 5.
+pub fn is_segment_near(segment: Segment, limit: u32) -> bool
+    ensures { λ r. ⌜ r ≡ isSegmentNear limit segment ⌝ }
 {
-    if is_join_near(segment.start) {
-        is_join_near(segment.end)
-    } else {
-        false
-    }
-}
-
-/// Whether two points are one.
-fn same_point(a: Point, b: Point) -> bool
-    ensures { λ r. ⌜ r ≡ samePoint a b ⌝ }
-{
-    let ax = a.x;
-    let ay = a.y;
-    let bx = b.x;
-    let by = b.y;
-    if ax == bx { ay == by } else { false }
+    both(
+        is_join_near(segment.start, limit),
+        is_join_near(segment.end, limit),
+    )
 }
 
 /// Whether a segment is one pixel wide: the left and the right corner at which the line before its start join ends are one.
@@ -151,7 +143,7 @@ fn cap_count(caps: Caps) -> usize
 
 /// How many lines of a segment are drawn: one of a skeleton, else four to six.
 pub fn perimeter_count(segment: Segment) -> usize
-    requires { ⌜ SegmentNear cornerLimit segment ⌝ }
+    requires { ⌜ SegmentNear lineLimit segment ⌝ }
     ensures { λ r. ⌜ r ≡ countOf segment ⌝ }
 {
     if is_skeleton(segment) {
@@ -216,7 +208,7 @@ fn scan(span: Span, lines: [[i64; 4]; 6], n: usize) -> Span
 
 /// The lines of a segment that are drawn, four coordinates each; behind them zeros.
 pub fn perimeter(segment: Segment) -> [[i64; 4]; 6]
-    requires { ⌜ SegmentNear cornerLimit segment ⌝ }
+    requires { ⌜ SegmentNear lineLimit segment ⌝ }
     ensures { λ r. ⌜ r ≡ perimeterOf segment ⌝ }
 {
     let e = edges(segment);
@@ -235,9 +227,38 @@ pub fn perimeter(segment: Segment) -> [[i64; 4]; 6]
     with_line(with_line(capped, after_end, right), after_end + 1, left)
 }
 
-/// The span of a segment on a row: empty, 0 to 0, where none of its drawn lines has a point there.
+/// The lesser row of two corners.
+fn upper(corners: Corners) -> i64
+    ensures { λ r. ⌜ r ≡ upperOf corners ⌝ }
+{
+    lesser(corners.left.y, corners.right.y)
+}
+
+/// The greater row of two corners.
+fn lower(corners: Corners) -> i64
+    ensures { λ r. ⌜ r ≡ lowerOf corners ⌝ }
+{
+    greater(corners.left.y, corners.right.y)
+}
+
+/// The least row of a join's corners.
+fn top(join: Join) -> i64
+    ensures { λ r. ⌜ r ≡ topOf join ⌝ }
+{
+    lesser(upper(join.ending), upper(join.starting))
+}
+
+/// The greatest row of a join's corners.
+fn bottom(join: Join) -> i64
+    ensures { λ r. ⌜ r ≡ bottomOf join ⌝ }
+{
+    greater(lower(join.ending), lower(join.starting))
+}
+
+/// The span of a segment on a row: empty, 0 to 0, where none of its drawn lines has a point there. No line is looked at if the row
+/// lies above or below all corners.
 pub fn span(segment: Segment, row: i64) -> Span
-    requires { ⌜ SegmentNear cornerLimit segment ⌝ }
+    requires { ⌜ SegmentNear lineLimit segment ⌝ }
     ensures { λ r. ⌜ r ≡ spanOn segment row ⌝ }
 {
     let empty = Span {
@@ -245,5 +266,11 @@ pub fn span(segment: Segment, row: i64) -> Span
         start: 0,
         end: 0,
     };
+    if row < lesser(top(segment.start), top(segment.end)) {
+        return empty;
+    }
+    if greater(bottom(segment.start), bottom(segment.end)) < row {
+        return empty;
+    }
     scan(empty, perimeter(segment), perimeter_count(segment))
 }

@@ -2,17 +2,16 @@
 //! span on a row. `thick_segment.rs`.
 ghost use mathlib.Core.Path.{_≡_};
 ghost use Rattle.shapes.specs.Limits.{cornerLimit};
-ghost use Rattle.thick_segment.specs.Answers.{skeletonAnswer, edgesAnswer, boxAnswer, perimeterAnswer, countAnswer, spanRefusal, spanAnswer};
+ghost use Rattle.thick_segment.specs.Answers.{skeletonAnswer, edgesAnswer, boxAnswer, perimeterAnswer, countAnswer, segmentRefusal, spanAnswer};
 
 pub mod inner; // inner.rt: the same without the tests
 
 use inner::is_segment_near;
 use line_join::Join;
-use linear_equation::Tested;
-use scanline::Spanned;
 use shapes::Line;
 use shapes::Point;
 use shapes::Span;
+use shapes::limits;
 use shapes::refusals::CORNER;
 use shapes::refusals::ROW;
 use whole::inner::within;
@@ -47,6 +46,18 @@ pub struct Boxed {
     pub rectangle: Rectangle,
 }
 
+/// Whether a segment is one pixel wide, or the refusal with false.
+pub struct Skeletal {
+    pub refusal: u64,
+    pub skeleton: bool,
+}
+
+/// A segment's span on a row, or the refusal with zeros.
+pub struct SegmentSpan {
+    pub refusal: u64,
+    pub span: Span,
+}
+
 /// How many lines are drawn, or the refusal with 0.
 pub struct Counted {
     pub refusal: u64,
@@ -54,18 +65,18 @@ pub struct Counted {
 }
 
 /// Whether a segment is one pixel wide. A join with a corner beyond 4,095 is refused with 5.
-pub fn is_skeleton(segment: Segment) -> Tested
+pub fn is_skeleton(segment: Segment) -> Skeletal
     ensures { λ r. ⌜ r ≡ skeletonAnswer cornerLimit segment ⌝ }
 {
-    if is_segment_near(segment) {
-        return Tested {
+    if is_segment_near(segment, limits::CORNER) {
+        return Skeletal {
             refusal: 0,
-            holds: inner::is_skeleton(segment),
+            skeleton: inner::is_skeleton(segment),
         };
     }
-    Tested {
+    Skeletal {
         refusal: CORNER,
-        holds: false,
+        skeleton: false,
     }
 }
 
@@ -74,7 +85,7 @@ pub fn is_skeleton(segment: Segment) -> Tested
 pub fn perimeter(segment: Segment) -> [[i64; 4]; 6]
     ensures { λ r. ⌜ r ≡ perimeterAnswer cornerLimit segment ⌝ }
 {
-    if is_segment_near(segment) {
+    if is_segment_near(segment, limits::CORNER) {
         return inner::perimeter(segment);
     }
     let z = [0i64; 4];
@@ -85,7 +96,7 @@ pub fn perimeter(segment: Segment) -> [[i64; 4]; 6]
 pub fn perimeter_count(segment: Segment) -> Counted
     ensures { λ r. ⌜ r ≡ countAnswer cornerLimit segment ⌝ }
 {
-    if is_segment_near(segment) {
+    if is_segment_near(segment, limits::CORNER) {
         return Counted {
             refusal: 0,
             count: inner::perimeter_count(segment),
@@ -101,7 +112,7 @@ pub fn perimeter_count(segment: Segment) -> Counted
 pub fn edges(segment: Segment) -> Edged
     ensures { λ r. ⌜ r ≡ edgesAnswer cornerLimit segment ⌝ }
 {
-    if is_segment_near(segment) {
+    if is_segment_near(segment, limits::CORNER) {
         return Edged {
             refusal: 0,
             edges: inner::edges(segment),
@@ -127,7 +138,7 @@ pub fn edges(segment: Segment) -> Edged
 pub fn edges_bounding_box(segment: Segment) -> Boxed
     ensures { λ r. ⌜ r ≡ boxAnswer cornerLimit segment ⌝ }
 {
-    if is_segment_near(segment) {
+    if is_segment_near(segment, limits::CORNER) {
         return Boxed {
             refusal: 0,
             rectangle: inner::edges_bounding_box(segment),
@@ -146,17 +157,17 @@ pub fn edges_bounding_box(segment: Segment) -> Boxed
 
 /// The span of a segment on a row: empty, 0 to 0, where none of its drawn lines has a point there. A join with a corner beyond
 /// 4,095 is refused with 5; then a row outside 4,095 with 6.
-pub fn span(segment: Segment, row: i64) -> Spanned
+pub fn span(segment: Segment, row: i64) -> SegmentSpan
     ensures { λ r. ⌜ r ≡ spanAnswer cornerLimit segment row ⌝ }
 {
-    let refusal = span_refusal(segment, row);
+    let refusal = segment_refusal(segment, row);
     if refusal == 0 {
-        return Spanned {
+        return SegmentSpan {
             refusal: 0,
             span: inner::span(segment, row),
         };
     }
-    Spanned {
+    SegmentSpan {
         refusal,
         span: Span {
             row: 0,
@@ -167,11 +178,11 @@ pub fn span(segment: Segment, row: i64) -> Spanned
 }
 
 /// The refusal of a segment and a row, 0 where there is none: 5, then 6.
-fn span_refusal(segment: Segment, row: i64) -> u64
-    ensures { λ r. ⌜ r ≡ spanRefusal cornerLimit segment row ⌝ }
+fn segment_refusal(segment: Segment, row: i64) -> u64
+    ensures { λ r. ⌜ r ≡ segmentRefusal cornerLimit segment row ⌝ }
 {
-    if is_segment_near(segment) {
-        if within(row, shapes::limits::CORNER) {
+    if is_segment_near(segment, limits::CORNER) {
+        if within(row, limits::CORNER) {
             return 0;
         }
         return ROW;

@@ -4,50 +4,56 @@ use mathlib.Core.Logic.{_↔_}
 use mathlib.Core.Bool.{false}
 use mathlib.Core.List.{List}
 use Prim.Native.Nat.{ℕ, _<_}
-use native.Mathlib.Omega.{arith}
 use borrow.Author.Tests.{eq-eqb}
-use lib.IntN.{ℤ}
-use Rattle.shapes.specs.Limits.{pointLimit, cornerLimit}
+use lib.Dec.{eqb}
+use lib.IntN.{ℤ, pos}
+use Rattle.whole.proofs.Tests.{Chosen, chosen, eqb-iff}
+use Rattle.shapes.specs.declared.limits.Limits.{Limits}
+use Rattle.shapes.specs.declared.Offset.the-variants.{None}
 use Rattle.thick_segment.specs.Segments.{SegmentNear}
-use Rattle.coordinates.specs.Refusal.{Accepted}
-use Rattle.coordinates.proofs.Laws.{accepted-exactly, refused-most}
+use Rattle.coordinates.specs.Refusal.{routeRefusal, Accepted}
+use Rattle.coordinates.proofs.Laws.{accepted-exactly}
 use Rattle.route_joins.specs.Joins.{openSegment, openCount}
 use Rattle.route_joins.specs.Steps.{SegmentBySegment}
-use Rattle.route_joins.proofs.Walks.{segments-in-turn, five-exactly, others-exactly, refusal-told}
+use Rattle.route_joins.proofs.Walks.{route-in-turn, route-five, route-other, refusal-told}
 use Rattle.thick_segment_iter.specs.declared.Walk.{Walk}
 use Rattle.thick_segment_iter.specs.declared.Started.{Started}
-use Rattle.thick_segment_iter.specs.Walks.{walkRefusal, started, stepOf, walkAfter}
+use Rattle.thick_segment_iter.specs.Walks.{openStart, openStep, afterOpen}
 
-module _ (cs : List ℤ) (w : ℤ) (accepted : Accepted pointLimit false cs w) where
-  none : walkRefusal cs w ≡ 0
-  unfolding walkRefusal
-  none = accepted-exactly pointLimit false cs w .1 accepted
-
+module _ (limits : Limits) (cs : List ℤ) (w : ℤ) (accepted : Accepted (limits .point) false cs w) where
   abbrev at : ℕ → Walk
   at p = record { place = p; width = w }
 
-  begun : started cs w .walk ≡ at 0
-  unfolding started
-  begun = rw (eq-eqb (walkRefusal cs w) 0 none)
+  begun : openStart (limits .point) cs w .walk ≡ at 0
+  unfolding openStart
+  begun = rw (eq-eqb (routeRefusal (limits .point) false cs w) 0 (accepted-exactly (limits .point) false cs w .1 accepted))
 
-  pub segment-by-segment : SegmentBySegment (stepOf cs) (walkAfter cs) (started cs w .walk) (openCount cs) (openSegment cs w)
-  unfolding stepOf walkAfter
-  segment-by-segment = segments-in-turn (stepOf cs) (walkAfter cs) at (openCount cs) (openSegment cs w) (λ p. rw none) (λ p. rw none) begun
+  pub segment-by-segment : SegmentBySegment (limits .corner) (openStep limits cs) (afterOpen limits cs) (openStart (limits .point) cs w .walk) (openCount cs) (openSegment cs w)
+  unfolding openStep afterOpen
+  segment-by-segment = route-in-turn limits false cs w None at accepted (λ p. refl) (λ p. refl) begun
 
 -- ---- refusals of a step: 1 to 4 exactly when the list and the width are refused with it, then 5 exactly when a join of the segment at its
 -- place has a corner beyond the limit
 
-module _ (cs : List ℤ) (walk : Walk) where
-  pub step-five : (stepOf cs walk .refusal ≡ 5)
-      ↔ ((walkRefusal cs (walk .width) ≡ 0) × ((walk .place < openCount cs) × (SegmentNear cornerLimit (openSegment cs (walk .width) (walk .place)) → ⊥)))
-  unfolding stepOf walkRefusal
-  step-five = five-exactly (walkRefusal cs (walk .width)) (openCount cs) (openSegment cs (walk .width)) (walk .place) (refused-most pointLimit false cs (walk .width) (omega arith))
+module _ (limits : Limits) (cs : List ℤ) (walk : Walk) where
+  pub step-five : (openStep limits cs walk .refusal ≡ 5)
+      ↔ ((routeRefusal (limits .point) false cs (walk .width) ≡ 0) × ((walk .place < openCount cs) × (SegmentNear (limits .corner) (openSegment cs (walk .width) (walk .place)) → ⊥)))
+  unfolding openStep
+  step-five = route-five limits false cs (walk .width) None (walk .place)
 
-  pub step-other : {n : ℕ} → 0 < n → (n ≡ 5 → ⊥) → (stepOf cs walk .refusal ≡ n) ↔ (walkRefusal cs (walk .width) ≡ n)
-  unfolding stepOf
-  step-other = others-exactly (walkRefusal cs (walk .width)) (openCount cs) (openSegment cs (walk .width)) (walk .place)
+  pub step-other : {n : ℕ} → 0 < n → (n ≡ 5 → ⊥) → (openStep limits cs walk .refusal ≡ n) ↔ (routeRefusal (limits .point) false cs (walk .width) ≡ n)
+  unfolding openStep
+  step-other = route-other limits false cs (walk .width) None (walk .place)
 
--- a start is refused with 1 to 4 alone
-pub start-refusal : (cs : List ℤ) (w : ℤ) → started cs w .refusal ≡ walkRefusal cs w
-unfolding started
-start-refusal cs w = refusal-told {A = Started} (λ s. s .refusal) (walkRefusal cs w) refl refl
+-- ---- a start is refused with 1 to 4 alone; refused, its walk is all 0
+
+module _ (k : ℕ) (cs : List ℤ) (w : ℤ) where
+  pub start-refusal : openStart k cs w .refusal ≡ routeRefusal k false cs w
+  unfolding openStart
+  start-refusal = refusal-told {A = Started} (λ s. s .refusal) (routeRefusal k false cs w) refl refl
+
+  pub start-chosen : Chosen (routeRefusal k false cs w ≡ 0) (openStart k cs w)
+      (record { refusal = 0; walk = record { place = 0; width = w } })
+      (record { refusal = routeRefusal k false cs w; walk = record { place = 0; width = pos 0 } })
+  unfolding openStart
+  start-chosen = chosen (eqb (routeRefusal k false cs w) 0) _ _ (eqb-iff (routeRefusal k false cs w) 0)

@@ -1,13 +1,14 @@
 -- The open and the closed walk, as `Stepping` has a walk. Assumes nothing.
+use Rattle.shapes.specs.Limits.{panel}
 use Rattle.walks_in_place.proofs.Stepping.{Walker}
 use Rattle.thick_segment_iter.specs.declared.Stepped.{Stepped as OpenStepped}
-use Rattle.thick_segment_iter.specs.Walks.{stepOf as openStep, walkAfter as afterOpen}
+use Rattle.thick_segment_iter.specs.Walks.{openStep, afterOpen}
 use Rattle.thick_segment_iter.proofs.Walk as open-walk
 use Rattle.thick_segment_iter.proofs.Walk.Laws as open-laws
 use Rattle.thick_segment_iter.proofs.Stepped as open-answer
 use Rattle.thick_segment_iter.proofs.step.Symbol as open-step
 use Rattle.closed_thick_segment_iter.specs.declared.Stepped.{Stepped as ClosedStepped}
-use Rattle.closed_thick_segment_iter.specs.Walks.{stepOf as closedStep, walkAfter as afterClosed}
+use Rattle.closed_thick_segment_iter.specs.Walks.{closedStep, afterClosed}
 use Rattle.closed_thick_segment_iter.proofs.Walk as closed-walk
 use Rattle.closed_thick_segment_iter.proofs.Walk.Laws as closed-laws
 use Rattle.closed_thick_segment_iter.proofs.Stepped as closed-answer
@@ -24,8 +25,8 @@ open-walker = record {
   step = λ r. r .step;
   walk = λ r. r .walk;
   one = open-answer.the-type .to-one;
-  stepOf = openStep;
-  walkAfter = afterOpen;
+  stepOf = openStep panel;
+  walkAfter = afterOpen panel;
   callee = open-step.name;
 }
 
@@ -40,7 +41,7 @@ closed-walker = record {
   step = λ r. r .step;
   walk = λ r. r .walk;
   one = closed-answer.the-type .to-one;
-  stepOf = closedStep;
-  walkAfter = afterClosed;
+  stepOf = closedStep panel;
+  walkAfter = afterClosed panel;
   callee = closed-step.name;
 }

@@ -1,55 +1,15 @@
 -- Laws of whole numbers from one to another, and of how many pass a test. Assumes nothing.
-use mathlib.Core.Path.{_≡_, refl, sym, ap, subst}
+use mathlib.Core.Path.{_≡_, refl, sym}
 use mathlib.Core.Bool.{Bool, true, false, not, cond, _&&_, _||_, and-false, or-true, and-comm, or-comm, false≢true}
 use Prim.Native.Nat.{ℕ, zero, suc, _+_, _≤_, _<_}
 use native.Mathlib.Omega.{arith}
-use borrow.Author.Tests.{lt-ltb, le-ltb, eqb-true}
-use lib.Dec.{T}
-use lib.IntN.{ℤ, pos, negsuc, _+ℤ_, _-ℤ_}
-use lib.Signed.{ltZ, leZ, _≤ℤ_, _<ℤ_, ≤ℤ-refl}
-use Rattle.whole.specs.Number.{eqZ, lesser, greater}
+use lib.IntN.{ℤ, pos, _+ℤ_, _-ℤ_}
+use lib.Signed.{ltZ, _≤ℤ_, _<ℤ_, ≤ℤ-refl}
+use Rattle.whole.specs.Number.{lesser, greater}
 use Rattle.whole.specs.Columns.{between, countFrom}
-use Rattle.whole.proofs.Linear.{up, dn, linear, lt-true, sum, diff}
+use Rattle.whole.proofs.Linear.{up, dn, linear, sum, diff}
+use Rattle.whole.proofs.Orders.{ordered}
 use Rattle.whole.proofs.Tests.{and-left, and-right}
-
--- ---- a test, from what is known of its two numbers
-
-is-true : (a : Bool) → T a → a ≡ true
-is-true true h = refl
-is-true false h = absurd h
-
-pub lt-yes : (x y : ℤ) → up x + dn y < up y + dn x → ltZ x y ≡ true
-lt-yes (pos a) (pos b) h = lt-ltb a b (omega arith)
-lt-yes (pos a) (negsuc b) h = absurd (omega arith)
-lt-yes (negsuc a) (pos b) h = refl
-lt-yes (negsuc a) (negsuc b) h = lt-ltb b a (omega arith)
-
-pub lt-no : (x y : ℤ) → up y + dn x ≤ up x + dn y → ltZ x y ≡ false
-lt-no (pos a) (pos b) h = le-ltb a b (omega arith)
-lt-no (pos a) (negsuc b) h = refl
-lt-no (negsuc a) (pos b) h = absurd (omega arith)
-lt-no (negsuc a) (negsuc b) h = le-ltb b a (omega arith)
-
-pub lt-of : {x y : ℤ} → up x + dn y < up y + dn x → x <ℤ y
-lt-of {x} {y} h = record { lt = subst T (sym (lt-yes x y h)) tt }
-
-pub lt-to : {x y : ℤ} → x <ℤ y → up x + dn y < up y + dn x
-lt-to {x} {y} h = lt-true x y (is-true (ltZ x y) (h .lt))
-
--- what `omega` is to read and to prove of whole numbers: orders, equations and tests
-pub ruleset tests = (linear, lt-yes, lt-no, lt-of, lt-to)
-
-pub true-le : (x y : ℤ) → leZ x y ≡ true → x ≤ℤ y
-true-le x y h = record { le = subst T (sym h) tt }
-
-pub le-true : (x y : ℤ) → x ≤ℤ y → leZ x y ≡ true
-le-true x y h = is-true (leZ x y) (h .le)
-
-pub eqZ-yes : (x y : ℤ) → eqZ x y ≡ true → x ≡ y
-eqZ-yes (pos a) (pos b) h = ap pos (eqb-true a b h)
-eqZ-yes (pos a) (negsuc b) h = absurd (false≢true h)
-eqZ-yes (negsuc a) (pos b) h = absurd (false≢true h)
-eqZ-yes (negsuc a) (negsuc b) h = ap negsuc (eqb-true a b h)
 
 -- ---- from one to another
 
@@ -91,8 +51,8 @@ between-lt s e x h = and-right (not (ltZ x s)) (ltZ x e) h
 between-from : (s t e y : ℤ) → s ≤ℤ y → t ≤ℤ y → between s e y ≡ between t e y
 unfolding between
 between-from s t e y p q =
-    let a : ltZ y s ≡ false = omega tests in
-    let b : ltZ y t ≡ false = omega tests in
+    let a : ltZ y s ≡ false = omega ordered in
+    let b : ltZ y t ≡ false = omega ordered in
     rw (a, b)
 
 -- what is below both is below the lesser, and what is not above either is not above the greater
@@ -115,13 +75,13 @@ greater-le a b x = greater-le-of a b x (ltZ a b) refl
 -- below the lesser is below both, below the greater is below one
 lt-lesser-by : (x a b : ℤ) (t : Bool) → ltZ b a ≡ t → ltZ x (lesser a b) ≡ (ltZ x a && ltZ x b)
 unfolding lesser
-lt-lesser-by x a b true h = rw h (under (ltZ x a) (ltZ x b) (λ below. omega tests))
-lt-lesser-by x a b false h = rw (h, and-comm (ltZ x a) (ltZ x b)) (under (ltZ x b) (ltZ x a) (λ below. omega tests))
+lt-lesser-by x a b true h = rw h (under (ltZ x a) (ltZ x b) (λ below. omega ordered))
+lt-lesser-by x a b false h = rw (h, and-comm (ltZ x a) (ltZ x b)) (under (ltZ x b) (ltZ x a) (λ below. omega ordered))
 
 lt-greater-by : (x a b : ℤ) (t : Bool) → ltZ a b ≡ t → ltZ x (greater a b) ≡ (ltZ x a || ltZ x b)
 unfolding greater
-lt-greater-by x a b true h = rw h (over (ltZ x a) (ltZ x b) (λ below. omega tests))
-lt-greater-by x a b false h = rw (h, or-comm (ltZ x a) (ltZ x b)) (over (ltZ x b) (ltZ x a) (λ below. omega tests))
+lt-greater-by x a b true h = rw h (over (ltZ x a) (ltZ x b) (λ below. omega ordered))
+lt-greater-by x a b false h = rw (h, or-comm (ltZ x a) (ltZ x b)) (over (ltZ x b) (ltZ x a) (λ below. omega ordered))
 
 -- two that touch or overlap are one
 as-one : (xs xa xe xb : Bool) → (xa ≡ true → xe ≡ true) → (xs ≡ true → xb ≡ true)
@@ -137,7 +97,7 @@ pub between-joined : (s e a b x : ℤ) → ltZ e a ≡ false → ltZ b s ≡ fal
 unfolding between
 between-joined s e a b x p q =
     rw (lt-lesser-by x s a (ltZ a s) refl, lt-greater-by x e b (ltZ e b) refl)
-    (as-one (ltZ x s) (ltZ x a) (ltZ x e) (ltZ x b) (λ h. omega tests) (λ h. omega tests))
+    (as-one (ltZ x s) (ltZ x a) (ltZ x e) (ltZ x b) (λ h. omega ordered) (λ h. omega ordered))
 
 -- ---- how many
 
@@ -171,15 +131,15 @@ Counted s e x n = countFrom (between s e) x n + (up s + dn e) ≡ up e + dn s
 between-by : (s e x : ℤ) (n : ℕ) (t u : Bool) → ltZ x s ≡ t → ltZ x e ≡ u → x ≤ℤ s → s ≤ℤ e
     → ((from : ℤ) → (x +ℤ pos 1) ≤ℤ from → from ≤ℤ e → Counted from e (x +ℤ pos 1) n) → Counted s e x (suc n)
 unfolding countFrom
-between-by s e x n true u low high a b more = rw (between-low s e x low) (omega (tests, more s (omega (tests, sum x (pos 1))) b))
+between-by s e x n true u low high a b more = rw (between-low s e x low) (omega (ordered, more s (omega (ordered, sum x (pos 1))) b))
 between-by s e x n false true low high a b more =
     let next = x +ℤ pos 1 in
-    let same = count-same (between s e) (between next e) next n (λ y l. between-from s next e y (omega (tests, sum x (pos 1))) l) in
-    rw (between-yes s e x low high, same) (omega (tests, sum x (pos 1), more next (≤ℤ-refl next) (omega (tests, sum x (pos 1)))))
+    let same = count-same (between s e) (between next e) next n (λ y l. between-from s next e y (omega (ordered, sum x (pos 1))) l) in
+    rw (between-yes s e x low high, same) (omega (ordered, sum x (pos 1), more next (≤ℤ-refl next) (omega (ordered, sum x (pos 1)))))
 between-by s e x n false false low high a b more =
     let next = x +ℤ pos 1 in
-    let same = count-same (between s e) (λ y. false) next n (λ y l. between-high s e y (omega (tests, sum x (pos 1)))) in
-    rw (between-high s e x high, same, count-none next n) (omega tests)
+    let same = count-same (between s e) (λ y. false) next n (λ y l. between-high s e y (omega (ordered, sum x (pos 1)))) in
+    rw (between-high s e x high, same, count-none next n) (omega ordered)
 
 counted : (s e x : ℤ) (n : ℕ) → x ≤ℤ s → s ≤ℤ e → e ≤ℤ (x +ℤ pos n) → Counted s e x n
 unfolding countFrom

@@ -3,6 +3,9 @@ pub mod Columns
 pub mod Laws
 pub mod Linear
 pub mod Machine
+pub mod Middle
+pub mod Orders
+pub mod Places
 pub mod Products
 pub mod Ring
 pub mod Spans

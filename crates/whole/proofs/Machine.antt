@@ -1,20 +1,19 @@
 -- What the machine holds. A signed local is 64 bits: `Hold n z k` says that the bits n are the number z, which is from -k
 -- to k. There is one law for each operation: what the machine asks of it (`fits-`), and what its result holds (`hold-`).
 -- Assumes nothing.
-use mathlib.Core.Path.{_≡_, refl, sym, ap, _∙_}
+use mathlib.Core.Path.{_≡_, sym, ap, _∙_}
 use mathlib.Core.Logic.{_≢_}
-use mathlib.Core.Bool.{Bool, true, false}
+use mathlib.Core.Bool.{Bool}
 use Prim.Native.Nat.{ℕ, _+_, _*_, _^_, _≤_, _<_}
 use native.Mathlib.Nat.{le-refl}
 use native.Mathlib.Omega.{arith}
-use borrow.Author.Tests.{eq-eqb, ne-eqb}
 use lib.Dec.{T, ltb, ltb→lt}
 use lib.IntN.{ℤ, pos, negsuc, natAbs, negℤ, _+ℤ_, _-ℤ_, _*ℤ_, +ℤ-idl}
 use lib.Signed.{mag, ltZ, leZ, quotZ}
 use mir.Syntax.{w64}
 use mir.Val.{SFits, toZ, ofZ}
 use mir.Facts.{toZ-ofZ}
-use Rattle.whole.specs.Number.{Within, eqZ}
+use Rattle.whole.specs.Number.{Within}
 use Rattle.whole.proofs.Bounds.{within-neg, within-add, within-sub, within-mul, within-quot}
 
 mag-le : (z : ℤ) → mag z ≤ natAbs z
@@ -96,16 +95,6 @@ lt-back f g h = rw (toZ-ofZ f, toZ-ofZ g) at h
 
 pub le-back : {x y : ℤ} {t : Bool} → SFits w64 x → SFits w64 y → leZ (toZ w64 (ofZ w64 x)) (toZ w64 (ofZ w64 y)) ≡ t → leZ x y ≡ t
 le-back f g h = rw (toZ-ofZ f, toZ-ofZ g) at h
-
-pub eqZ-refl : (x : ℤ) → eqZ x x ≡ true
-eqZ-refl (pos a) = eq-eqb a a refl
-eqZ-refl (negsuc a) = eq-eqb a a refl
-
-pub eqZ-no : (x y : ℤ) → (x ≡ y → ⊥) → eqZ x y ≡ false
-eqZ-no (pos a) (pos b) h = ne-eqb a b (λ e. h (ap pos e))
-eqZ-no (pos a) (negsuc b) h = refl
-eqZ-no (negsuc a) (pos b) h = refl
-eqZ-no (negsuc a) (negsuc b) h = ne-eqb a b (λ e. h (ap negsuc e))
 
 -- equal bits hold equal numbers, and others do not
 pub eq-hold : {a b m n : ℕ} {x y : ℤ} → Hold a x m → Hold b y n → a ≡ b → x ≡ y

@@ -1,85 +1,19 @@
--- Laws for spans of columns: what `omega` is to read of < and of tests for ≤ and =, what a test says of bits, and the number
--- before another. Assumes nothing.
+-- Laws for spans of columns: what a test for equality says of bits, bounds as orders, the lesser and the greater. Assumes nothing.
 use mathlib.Core.Path.{_≡_, refl, sym, ap, _∙_}
 use mathlib.Core.Bool.{Bool, true, false}
 use Prim.Native.Nat.{ℕ, _+_, _<_, _≤_}
 use native.Mathlib.Nat.{le-refl}
 use native.Mathlib.Omega.{arith}
-use borrow.Author.Tests.{eqb-true, lt-ltb, le-ltb, le-leb, lt-leb}
-use lib.Dec.{ltb→lt, lt→ltb}
+use borrow.Author.Tests.{eqb-true, eqb-false}
+use lib.Dec.{eqb}
 use lib.IntN.{ℤ, pos, negsuc, negℤ}
-use lib.Signed.{mag, ltZ, leZ, _≤ℤ_, _<ℤ_}
+use lib.Signed.{mag, ltZ, _≤ℤ_, _<ℤ_}
 use mir.Syntax.{w64}
 use mir.Val.{SFits, ofZ, toZ}
 use mir.Facts.{toZ-ofZ}
 use Rattle.whole.specs.Number.{Within, eqZ, lesser, greater}
 use Rattle.whole.proofs.Linear.{up, dn, linear, opp, abs-parts, abs-le}
-use Rattle.whole.proofs.Steps.{le-true, le-false}
-use Rattle.whole.proofs.Machine.{eqZ-refl, eqZ-no}
-
--- ---- a test answers one way
-
-pub clash : {t : Bool} → t ≡ true → t ≡ false → ⊥
-clash e f = let z : _≡_ {A = ℕ} 0 1 = cc in omega arith
-
-pub else-true : (t : Bool) → (t ≡ false → ⊥) → t ≡ true
-else-true true h = refl
-else-true false h = absurd (h refl)
-
-pub else-false : (t : Bool) → (t ≡ true → ⊥) → t ≡ false
-else-false true h = absurd (h refl)
-else-false false h = refl
-
--- ---- orders
-
-pub lt-of : {x y : ℤ} → up x + dn y < up y + dn x → x <ℤ y
-lt-of {x = pos a} {y = pos b} h = record { lt = lt→ltb a b (omega arith) }
-lt-of {x = pos a} {y = negsuc b} h = absurd (omega arith)
-lt-of {x = negsuc a} {y = pos b} h = record { lt = tt }
-lt-of {x = negsuc a} {y = negsuc b} h = record { lt = lt→ltb b a (omega arith) }
-
-pub lt-to : {x y : ℤ} → x <ℤ y → up x + dn y < up y + dn x
-lt-to {x = pos a} {y = pos b} h = omega (arith, ltb→lt a b (h .lt))
-lt-to {x = pos a} {y = negsuc b} h = absurd (h .lt)
-lt-to {x = negsuc a} {y = pos b} h = omega arith
-lt-to {x = negsuc a} {y = negsuc b} h = omega (arith, ltb→lt b a (h .lt))
-
--- what a test answers
-pub lt-yes : (x y : ℤ) → up x + dn y < up y + dn x → ltZ x y ≡ true
-lt-yes (pos a) (pos b) h = lt-ltb a b (omega arith)
-lt-yes (pos a) (negsuc b) h = absurd (omega arith)
-lt-yes (negsuc a) (pos b) h = refl
-lt-yes (negsuc a) (negsuc b) h = lt-ltb b a (omega arith)
-
-pub lt-not : (x y : ℤ) → up y + dn x ≤ up x + dn y → ltZ x y ≡ false
-lt-not (pos a) (pos b) h = le-ltb a b (omega arith)
-lt-not (pos a) (negsuc b) h = refl
-lt-not (negsuc a) (pos b) h = absurd (omega arith)
-lt-not (negsuc a) (negsuc b) h = le-ltb b a (omega arith)
-
-pub le-yes : (x y : ℤ) → up x + dn y ≤ up y + dn x → leZ x y ≡ true
-le-yes (pos a) (pos b) h = le-leb a b (omega arith)
-le-yes (pos a) (negsuc b) h = absurd (omega arith)
-le-yes (negsuc a) (pos b) h = refl
-le-yes (negsuc a) (negsuc b) h = le-leb b a (omega arith)
-
-pub le-not : (x y : ℤ) → up y + dn x < up x + dn y → leZ x y ≡ false
-le-not (pos a) (pos b) h = lt-leb a b (omega arith)
-le-not (pos a) (negsuc b) h = refl
-le-not (negsuc a) (pos b) h = absurd (omega arith)
-le-not (negsuc a) (negsuc b) h = lt-leb b a (omega arith)
-
--- what `omega` is to read and to prove besides: <, and tests
-pub ruleset ordered = (linear, lt-of, lt-to, le-true, le-false, lt-yes, lt-not, le-yes, le-not)
-
-pub eqZ-true : (x y : ℤ) → eqZ x y ≡ true → x ≡ y
-eqZ-true (pos a) (pos b) e = ap pos (eqb-true a b e)
-eqZ-true (pos a) (negsuc b) e = cc
-eqZ-true (negsuc a) (pos b) e = cc
-eqZ-true (negsuc a) (negsuc b) e = ap negsuc (eqb-true a b e)
-
-pub eqZ-false : (x y : ℤ) → eqZ x y ≡ false → x ≡ y → ⊥
-eqZ-false x y e same = let z : _≡_ {A = ℕ} 0 1 = cc (e, (rw same at (eqZ-refl x))) in omega arith
+use Rattle.whole.proofs.Orders.{ordered, eqZ-refl, eqZ-no}
 
 -- ---- what a test for equality says of the numbers that the bits hold
 
@@ -88,6 +22,13 @@ eq-eqZ {x} {y} f g e = rw (← (sym (toZ-ofZ f) ∙ ap (toZ w64) e ∙ toZ-ofZ g
 
 pub ne-eqZ : {x y : ℤ} → SFits w64 x → SFits w64 y → (ofZ w64 x ≡ ofZ w64 y → ⊥) → eqZ x y ≡ false
 ne-eqZ {x} {y} f g h = eqZ-no x y (λ e. h (ap (ofZ w64) e))
+
+bits-by : {x y : ℤ} (t : Bool) → eqb (ofZ w64 x) (ofZ w64 y) ≡ t → SFits w64 x → SFits w64 y → t ≡ eqZ x y
+bits-by {x} {y} true e f g = sym (eq-eqZ f g (eqb-true (ofZ w64 x) (ofZ w64 y) e))
+bits-by {x} {y} false e f g = sym (ne-eqZ f g (eqb-false (ofZ w64 x) (ofZ w64 y) e))
+
+pub bits-eq : {x y : ℤ} → SFits w64 x → SFits w64 y → eqb (ofZ w64 x) (ofZ w64 y) ≡ eqZ x y
+bits-eq {x} {y} f g = bits-by (eqb (ofZ w64 x) (ofZ w64 y)) refl f g
 
 -- an answer of two numbers, taken from their bits
 pub of-bits : {A : Type 0} {x y : ℤ} (f : ℤ → ℤ → A) → SFits w64 x → SFits w64 y → f (toZ w64 (ofZ w64 x)) (toZ w64 (ofZ w64 y)) ≡ f x y

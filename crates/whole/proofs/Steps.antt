@@ -1,50 +1,12 @@
--- Laws for walks that go by single steps: what a test for ≤ says, how far a step leads, squares, absolute values. Assumes nothing.
+-- Laws for walks that go by single steps: how far a step leads, squares, absolute values. Assumes nothing.
 use mathlib.Core.Path.{_≡_, refl}
 use mathlib.Core.Logic.{_⊎_, ⊎-elim}
-use mathlib.Core.Bool.{Bool, true, false}
-use Prim.Native.Nat.{ℕ, suc, _+_, _*_, _/_, _≤_, _<_}
+use Prim.Native.Nat.{ℕ, suc, _+_, _*_, _/_, _≤_}
 use native.Mathlib.Nat.{mul-le-mul, mul-le-mul-left}
 use native.Mathlib.Omega.{arith}
-use borrow.Author.Tests.{leb-true, leb-false}
 use lib.IntN.{ℤ, pos, negsuc, natAbs, _+ℤ_, _-ℤ_, _*ℤ_}
-use lib.Signed.{ltZ, leZ, quotZ, _≤ℤ_}
+use lib.Signed.{quotZ, _≤ℤ_}
 use Rattle.whole.proofs.Linear.{up, dn, linear, sum, diff, abs-parts, abs-le, le-or-lt}
-
--- ---- tests for ≤, as those for < in Linear
-
-pub le-true : (x y : ℤ) → leZ x y ≡ true → up x + dn y ≤ up y + dn x
-le-true (pos a) (pos b) h = omega (arith, leb-true a b h)
-le-true (pos a) (negsuc b) h = let z : _≡_ {A = ℕ} 0 1 = cc in absurd (omega arith)
-le-true (negsuc a) (pos b) h = omega arith
-le-true (negsuc a) (negsuc b) h = omega (arith, leb-true b a h)
-
-pub le-false : (x y : ℤ) → leZ x y ≡ false → up y + dn x < up x + dn y
-le-false (pos a) (pos b) h = omega (arith, leb-false a b h)
-le-false (pos a) (negsuc b) h = omega arith
-le-false (negsuc a) (pos b) h = let z : _≡_ {A = ℕ} 0 1 = cc in absurd (omega arith)
-le-false (negsuc a) (negsuc b) h = omega (arith, leb-false b a h)
-
--- what a test answers where its order fails, or holds
-lt-no-by : (x y : ℤ) (t : Bool) → ltZ x y ≡ t → y ≤ℤ x → t ≡ false
-lt-no-by x y true e h = absurd (omega linear)
-lt-no-by x y false e h = refl
-
-pub lt-no : (x y : ℤ) → y ≤ℤ x → ltZ x y ≡ false
-lt-no x y h = lt-no-by x y (ltZ x y) refl h
-
-le-no-by : (x y : ℤ) (t : Bool) → leZ x y ≡ t → (y +ℤ pos 1) ≤ℤ x → t ≡ false
-le-no-by x y true e h = absurd (omega (linear, le-true x y e, sum y (pos 1)))
-le-no-by x y false e h = refl
-
-pub le-no : (x y : ℤ) → (y +ℤ pos 1) ≤ℤ x → leZ x y ≡ false
-le-no x y h = le-no-by x y (leZ x y) refl h
-
-le-yes-by : (x y : ℤ) (t : Bool) → leZ x y ≡ t → x ≤ℤ y → t ≡ true
-le-yes-by x y true e h = refl
-le-yes-by x y false e h = absurd (omega (linear, le-false x y e))
-
-pub le-yes : (x y : ℤ) → x ≤ℤ y → leZ x y ≡ true
-le-yes x y h = le-yes-by x y (leZ x y) refl h
 
 -- ---- a step of at most one leads at most one further from o
 

@@ -34,9 +34,16 @@ pub true-passed : (t : Bool) → T t → t ≡ true
 true-passed true p = refl
 true-passed false p = absurd p
 
-pub untrue : (t : Bool) → (t ≡ true → ⊥) → t ≡ false
-untrue true n = absurd (n refl)
-untrue false n = refl
+pub clash : {t : Bool} → t ≡ true → t ≡ false → ⊥
+clash e f = let z : _≡_ {A = ℕ} 0 1 = cc in omega arith
+
+pub else-true : (t : Bool) → (t ≡ false → ⊥) → t ≡ true
+else-true true h = refl
+else-true false h = absurd (h refl)
+
+pub else-false : (t : Bool) → (t ≡ true → ⊥) → t ≡ false
+else-false true n = absurd (n refl)
+else-false false n = refl
 
 pub lt-iff : (x y : ℤ) → (ltZ x y ≡ true) ↔ (x <ℤ y)
 lt-iff x y = (λ e. record { lt = passed (ltZ x y) e }, λ h. true-passed (ltZ x y) (h .lt))

@@ -1,3 +1,4 @@
 pub mod Columns
 pub mod Number
+pub mod Places
 pub mod Rounded

@@ -1,11 +1,19 @@
 //! Functions on numbers alone, for the crates above.
 ghost use mathlib.Core.Path.{_≡_};
+ghost use mathlib.Core.Bool.{_&&_};
 ghost use mathlib.Core.Logic.{_≢_};
 ghost use Prim.Native.Nat.{_^_};
 ghost use lib.IntN.{pos, natAbs};
 ghost use Rattle.whole.specs.Number.{Within, isWithin};
 ghost use Rattle.whole.specs.Number.{lesser as lesserOf, greater as greaterOf};
 ghost use Rattle.whole.specs.Rounded.{rounded as roundedOf};
+
+/// Whether both tests hold.
+pub fn both(a: bool, b: bool) -> bool
+    ensures { λ r. ⌜ r ≡ (a && b) ⌝ }
+{
+    if a { b } else { false }
+}
 
 /// Whether `x` is from `-limit` to `limit`.
 pub fn within(x: i64, limit: u32) -> bool

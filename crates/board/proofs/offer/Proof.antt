@@ -1,70 +1,54 @@
--- `board::offer` meets its contract. Assumes nothing.
 use mathlib.Core.Path.{_≡_, sym, _∙_}
-use mathlib.Core.Bool.{true}
+use mathlib.Core.Bool.{_&&_}
 use borrow.Author.Needs.{needs}
-use mir.Syntax.{w64}
-use mir.Val.{SFits}
 use Rattle.whole.specs.Number.{eqZ}
-use Rattle.whole.proofs.Machine.{eqZ-refl, eqZ-no, eq-back, ne-back}
-use Rattle.board.specs.Boards.{isSound, offerRefusal, offered}
-use Rattle.board.proofs.Laws.{true-sound}
+use Rattle.whole.proofs.Spans.{bits-eq}
+use Rattle.whole.proofs.Tests.{and-left}
+use Rattle.shapes.specs.Limits.{cornerLimit}
+use Rattle.board.specs.Boards.{isSound, offered}
+use Rattle.board.proofs.Sound.{sound-iff}
 use Rattle.board.proofs.offer.Statement.{statement}
 use Rattle.board.proofs.offer.Tie as tie
 
--- ---- what the tests say
-
-sound : (c : tie.Then1) → isSound (c .before .before .args .board) ≡ true
-sound c = sym (c .before .is-sound .ensures) ∙ c .if1 .taken
-
-rows-fit : (c : tie.After-struct-told2) → let a = c .before .before .before .before .before .before .args in SFits w64 (a .span .row) × SFits w64 (a .board .row)
-rows-fit c = (search needs, search needs)
-
-same-row : (c : tie.Then2) → let a = c .before .before .before .before .before .before .before .args in a .span .row ≡ a .board .row
-same-row c = let f = rows-fit (c .before) in eq-back (f .0) (f .1) (c .if2 .taken)
-
-is-sound-requires : tie.Need-is-sound-requires
-is-sound-requires c κs = search needs
-
-is-inside-requires : tie.Need-is-inside-requires
-is-inside-requires c κs = search needs
+-- what the first test says
+told : (c : tie.After-both) → let a = c .before .before .before .before .before .before .args in
+    c .both .result ≡ (isSound cornerLimit (a .board) && eqZ (a .span .row) (a .board .row))
+told c = let a = c .before .before .before .before .before .before .args in cc (bits-eq {x = a .span .row} {y = a .board .row} (search needs) (search needs))
 
 offer-sound-requires : tie.Need-offer-sound-requires
 offer-sound-requires c κs =
-    let t2 = c .before .before in
-    let t1 = t2 .before .before .before .before .before in
-    record { sound = true-sound (t1 .before .before .args .board) (sound t1); same-row = same-row t2; inside = sym (c .before .is-inside .ensures) ∙ c .if3 .taken }
+    let t = c .before .before in
+    let a = t .before .before .before .before .before .before .before .args in
+    sound-iff cornerLimit (a .board) .0 (and-left (isSound cornerLimit (a .board)) (eqZ (a .span .row) (a .board .row)) (sym (told (t .before)) ∙ t .if1 .taken)) .few
 
 returns : tie.Need-returns
-returns c = search needs
+unfolding offered
+returns c =
+    let t2 = c .before in
+    let t1 = t2 .before .before in
+    rw (← told (t1 .before), t1 .if1 .taken, ← t2 .before .is-sound2 .ensures, t2 .if2 .taken) (c .offer-sound .ensures)
 
 returns-2 : tie.Need-returns-2
-unfolding offered offerRefusal
+unfolding offered
 returns-2 c =
-    let t2 = c .before .before in
-    let t1 = t2 .before .before .before .before .before in
-    let a = t1 .before .before .args in
-    let row : eqZ (a .span .row) (a .board .row) ≡ true = rw (same-row t2) (eqZ-refl (a .board .row)) in
-    rw (sound t1, row, sym (c .before .is-inside .ensures) ∙ c .if3 .left)
+    let e2 = c .before in
+    let t1 = e2 .before .before in
+    rw (← told (t1 .before), t1 .if1 .taken, ← e2 .before .is-sound2 .ensures, e2 .if2 .left) (c .refused .ensures)
 
 returns-3 : tie.Need-returns-3
-unfolding offered offerRefusal
-returns-3 c =
-    let t1 = c .before .before .before .before .before in
-    let a = t1 .before .before .args in
-    rw (sound t1, eqZ-no (a .span .row) (a .board .row) (ne-back (c .if2 .left)))
-
-returns-4 : tie.Need-returns-4
-unfolding offered offerRefusal
-returns-4 c = rw (sym (c .before .is-sound .ensures) ∙ c .if1 .left)
+unfolding offered
+returns-3 c = rw (← told (c .before .before), c .before .if1 .left) (c .refused2 .ensures)
 
 pub offer-spec : {M : Type 1} → statement M
 offer-spec =
     tie.close
     (tie.spec
-    is-sound-requires
-    is-inside-requires
+    (λ c κs. search needs)
+    (λ c κs. search needs)
+    (λ c κs. search needs)
     offer-sound-requires
     returns
+    (λ c κs. search needs)
     returns-2
-    returns-3
-    returns-4)
+    (λ c κs. search needs)
+    returns-3)

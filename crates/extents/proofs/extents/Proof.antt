@@ -1,51 +1,43 @@
-use mathlib.Core.Path.{_≡_, sym, _∙_, ap}
-use native.Mathlib.Omega.{arith}
+use mathlib.Core.Path.{_≡_, sym, _∙_}
 use borrow.Author.Needs.{needs}
-use borrow.Author.Tests.{lt-ltb, le-ltb}
 use lib.Dec.{lit≤}
-use Rattle.whole.proofs.Machine.{hold}
-use Rattle.shapes.proofs.Laws.{line-near-more}
-use Rattle.parallels.specs.Refusal.{strokeRefusal}
-use Rattle.parallels.proofs.Refusals.{Accepted, refusal-none}
-use Rattle.extents.specs.Edges.{extentsOf}
-use Rattle.extents.specs.Entry.{refusedWith, accepted, answerOf}
+use mir.Facts.{toZ-ofZ}
+use Rattle.shapes.specs.Limits.{pointLimit}
+use Rattle.shapes.specs.Shape.{LineNear, isLineNear}
+use Rattle.shapes.specs.Strokes.{Thin, strokeRefusal}
+use Rattle.shapes.proofs.Laws.{line-near-iff, line-near-more}
+use Rattle.shapes.proofs.Widths.{thin-back, stroke-none}
+use Rattle.parallels.proofs.Room.{thin-thick}
+use Rattle.extents.proofs.Answers.{by-refusal, by-none}
 use Rattle.extents.proofs.extents.Statement.{statement}
 use Rattle.extents.proofs.extents.Tie as tie
-use mir.Facts.{toZ-ofZ}
-
-refusal-requires : tie.Need-refusal-requires
-refusal-requires c κs = search needs
 
 -- the refusal's number
-number : (c : tie.After-refusal) → c .refusal .result ≡ strokeRefusal (c .before .args .line) (c .before .args .width)
-number c = c .refusal .ensures ∙ ap (strokeRefusal (c .before .args .line)) (toZ-ofZ (c .before .fits .width))
-
-refused-requires : tie.Need-refused-requires
-refused-requires c κs = search needs
+number : (c : tie.After-stroke-refusal) → let a = c .before .before .args in strokeRefusal (a .width) (isLineNear pointLimit (a .line)) ≡ c .stroke-refusal .result
+number c = sym (rw (toZ-ofZ (c .before .before .fits .width), c .before .is-line-near .ensures) at (c .stroke-refusal .ensures))
 
 returns : tie.Need-returns
-unfolding answerOf
 returns c =
-    let n = number (c .before .before) in
-    simp (lt-ltb 0 _ (rw n at (c .before .if1 .taken))) (c .refused .ensures ∙ ap refusedWith n)
+    let t = c .before in
+    let a = t .before .before .before .args in
+    c .refused .ensures ∙ sym (by-refusal pointLimit (a .line) (a .width) (a .offset) (number (t .before)) (t .if1 .taken))
 
 -- where it is 0, all is within its limits
-within : (c : tie.Else1) → Accepted (c .before .before .args .line) (c .before .before .args .width)
-within c = refusal-none (c .before .before .args .line) (c .before .before .args .width) (sym (number (c .before)) ∙ omega arith)
+within : (c : tie.Else1) → let a = c .before .before .before .args in Thin (a .width) × LineNear pointLimit (a .line)
+within c = let a = c .before .before .before .args in stroke-none (a .width) (line-near-iff pointLimit (a .line)) .0 (number (c .before) ∙ c .if1 .left)
 
 extents-requires : tie.Need-extents-requires
-extents-requires c κs =
-    let a = within c in
-    let w = hold (a .width-small) tt in
-    (line-near-more (a .line-near) (lit≤ tt), rw (w .is) (w .small))
+extents-requires c κs = (line-near-more (within c .1) (lit≤ tt), thin-thick (thin-back (within c .0)))
 
 returns-2 : tie.Need-returns-2
-unfolding answerOf
 returns-2 c =
-    let a = c .before .before .before .before .before .args in
-    let n = number (c .before .before .before .before) in
-    let edges : c .before .before .extents .result ≡ extentsOf (a .line) (a .width) (a .offset) = c .before .before .extents .ensures ∙ ap (λ w. extentsOf (a .line) w (a .offset)) (toZ-ofZ (c .before .before .before .before .before .fits .width)) in
-    simp (le-ltb 0 _ (rw n at (c .before .before .before .if1 .left))) (ap accepted edges)
+    let edges = c .before .before in
+    let else = edges .before in
+    let s = else .before .before .before in
+    let a = s .args in
+    rw (edges .extents .ensures, toZ-ofZ (s .fits .width)) (sym (by-none pointLimit (a .line) (a .width) (a .offset) (number (else .before) ∙ else .if1 .left)))
 
 pub extents-spec : {M : Type 1} → statement M
-extents-spec = tie.close (tie.spec refusal-requires refused-requires returns extents-requires returns-2)
+extents-spec =
+    tie.close
+    (tie.spec (λ c κs. search needs) (λ c κs. search needs) (λ c κs. search needs) returns extents-requires returns-2)

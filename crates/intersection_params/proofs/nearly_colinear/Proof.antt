@@ -2,16 +2,13 @@ use mathlib.Core.Path.{_≡_, sym, _∙_}
 use mathlib.Core.Bool.{true}
 use borrow.Author.Needs.{needs}
 use Rattle.shapes.specs.Limits.{crossingLimit}
-use Rattle.intersection_params.specs.Crossing.{areNear, nearlyAnswer}
+use Rattle.intersection_params.specs.Crossing.{areLinesNear, nearlyAnswer}
 use Rattle.intersection_params.proofs.Room.{near-first, near-second}
 use Rattle.intersection_params.proofs.nearly_colinear.Statement.{statement}
 use Rattle.intersection_params.proofs.nearly_colinear.Tie as tie
 
-inside : (c : tie.Then1) → areNear crossingLimit (c .before .before .args .first) (c .before .before .args .second) ≡ true
+inside : (c : tie.Then1) → areLinesNear crossingLimit (c .before .before .args .first) (c .before .before .args .second) ≡ true
 inside c = sym (c .before .are-near .ensures) ∙ c .if1 .taken
-
-are-near-requires : tie.Need-are-near-requires
-are-near-requires c κs = search needs
 
 nearly-colinear-requires : tie.Need-nearly-colinear-requires
 nearly-colinear-requires c κs =
@@ -27,4 +24,4 @@ unfolding nearlyAnswer
 returns-2 c = simp (sym (c .before .are-near .ensures) ∙ c .if1 .left)
 
 pub nearly-colinear-spec : {M : Type 1} → statement M
-nearly-colinear-spec = tie.close (tie.spec are-near-requires nearly-colinear-requires returns returns-2)
+nearly-colinear-spec = tie.close (tie.spec (λ c κs. search needs) nearly-colinear-requires returns returns-2)

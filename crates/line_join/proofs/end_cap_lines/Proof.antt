@@ -1,16 +1,12 @@
-use mathlib.Core.Path.{sym, ap, _∙_}
 use borrow.Author.Needs.{needs}
-use Rattle.shapes.specs.Limits.{cornerLimit}
+use mathlib.Core.Path.{sym, ap, _∙_}
 use Rattle.line_join.specs.Answers.{capsValues, endCapsAnswer}
-use Rattle.line_join.proofs.Room.{join-near-iff}
+use Rattle.line_join.proofs.Room.{join-room}
 use Rattle.line_join.proofs.end_cap_lines.Statement.{statement}
 use Rattle.line_join.proofs.end_cap_lines.Tie as tie
 
-is-join-near-requires : tie.Need-is-join-near-requires
-is-join-near-requires c κs = search needs
-
 end-caps-requires : tie.Need-end-caps-requires
-end-caps-requires c κs = join-near-iff cornerLimit (c .before .before .args .join) .0 (sym (c .before .is-join-near .ensures) ∙ c .if1 .taken)
+end-caps-requires c κs = join-room (c .before .before .args .join) (sym (c .before .is-join-near .ensures) ∙ c .if1 .taken)
 
 returns : tie.Need-returns
 unfolding endCapsAnswer
@@ -21,4 +17,4 @@ unfolding endCapsAnswer
 returns-2 c = simp (sym (c .before .is-join-near .ensures) ∙ c .if1 .left)
 
 pub end-cap-lines-spec : {M : Type 1} → statement M
-end-cap-lines-spec = tie.close (tie.spec is-join-near-requires end-caps-requires returns returns-2)
+end-cap-lines-spec = tie.close (tie.spec (λ c κs. search needs) end-caps-requires returns returns-2)

@@ -1,14 +1,8 @@
-use mathlib.Core.Path.{sym, ap, _∙_}
 use borrow.Author.Needs.{needs}
+use mathlib.Core.Path.{sym, ap, _∙_}
 use Rattle.line_join.specs.Answers.{fillerValues, fillerAnswer}
 use Rattle.line_join.proofs.filler_line.Statement.{statement}
 use Rattle.line_join.proofs.filler_line.Tie as tie
-
-is-join-near-requires : tie.Need-is-join-near-requires
-is-join-near-requires c κs = search needs
-
-filler-requires : tie.Need-filler-requires
-filler-requires c κs = search needs
 
 returns : tie.Need-returns
 unfolding fillerAnswer
@@ -19,4 +13,4 @@ unfolding fillerAnswer
 returns-2 c = simp (sym (c .before .is-join-near .ensures) ∙ c .if1 .left)
 
 pub filler-line-spec : {M : Type 1} → statement M
-filler-line-spec = tie.close (tie.spec is-join-near-requires filler-requires returns returns-2)
+filler-line-spec = tie.close (tie.spec (λ c κs. search needs) (λ c κs. search needs) returns returns-2)

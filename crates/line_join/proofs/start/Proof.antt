@@ -1,61 +1,44 @@
-use mathlib.Core.Path.{_≡_, ap, _∙_}
-use mathlib.Core.Bool.{Bool, true}
+use mathlib.Core.Path.{_≡_}
+use mathlib.Core.Bool.{Bool}
 use borrow.Author.Needs.{needs}
+use lib.Dec.{lit≤}
 use mir.Facts.{toZ-ofZ}
-use Rattle.shapes.specs.Limits.{pointLimit}
+use Rattle.shapes.specs.Limits.{pointLimit, cornerLimit}
 use Rattle.shapes.specs.Shape.{lineOf, isLineNear}
-use Rattle.shapes.proofs.Laws.{true-line-near}
-use Rattle.line_join.specs.Miter.{Thin}
-use Rattle.line_join.specs.Join.{startOf}
-use Rattle.line_join.specs.Answers.{inputRefusal, startAnswer}
-use Rattle.line_join.proofs.Answers.{admitted, answer-checked, answer-refused}
-use Rattle.line_join.proofs.Room.{thin-back}
+use Rattle.shapes.specs.Strokes.{strokeRefusal}
+use Rattle.shapes.proofs.Laws.{near-more, true-line-near}
+use Rattle.shapes.proofs.Widths.{thin-back}
+use Rattle.line_join.specs.Answers.{startAnswer}
+use Rattle.line_join.proofs.Answers.{admitted, answer-made, answer-refused}
 use Rattle.line_join.proofs.start.Statement.{statement}
 use Rattle.line_join.proofs.start.Tie as tie
 
--- whether the points are inside the limit
+-- whether the points are inside the limit, and what the input is refused with
 abbrev near : tie.Start → Bool
-near s = let a = s .args in isLineNear pointLimit (lineOf (a .a) (a .b))
+near s = isLineNear pointLimit (lineOf (s .args .a) (s .args .b))
 
-refusal : (c : tie.After-input-refusal) → c .input-refusal .result ≡ inputRefusal (c .before .before .args .width) (near (c .before .before))
-refusal c = c .input-refusal .ensures ∙ cc (toZ-ofZ (c .before .before .fits .width), c .before .is-line-near .ensures)
-
--- past the test they are, and the width is
-inside : (c : tie.Then1) → Thin (c .before .before .before .args .width) × (near (c .before .before .before) ≡ true)
-inside c = let s = c .before .before .before in admitted (s .args .width) (near s) (refusal (c .before)) (c .if1 .taken)
-
-is-line-near-requires : tie.Need-is-line-near-requires
-is-line-near-requires c κs = search needs
-
-input-refusal-requires : tie.Need-input-refusal-requires
-input-refusal-requires c κs = search needs
+refusal : (c : tie.After-stroke-refusal) → c .stroke-refusal .result ≡ strokeRefusal (c .before .before .args .width) (near (c .before .before))
+refusal c = cc (toZ-ofZ (c .before .before .fits .width))
 
 start-requires : tie.Need-start-requires
 start-requires c κs =
-    let a = c .before .before .before .args in
-    let line = true-line-near pointLimit (lineOf (a .a) (a .b)) (inside c .1) in
-    (line .start-near, (line .end-near, thin-back (inside c .0)))
-
-checked-requires : tie.Need-checked-requires
-checked-requires c κs = search needs
+    let s = c .before .before .before in
+    let inside = admitted cornerLimit (s .args .width) (near s) (refusal (c .before)) (c .if1 .taken) in
+    let line = true-line-near pointLimit (lineOf (s .args .a) (s .args .b)) (inside .1) in
+    (near-more (line .start-near) (lit≤ tt), (near-more (line .end-near) (lit≤ tt), thin-back (inside .0)))
 
 returns : tie.Need-returns
 unfolding startAnswer
 returns c =
     let t = c .before .before in
     let s = t .before .before .before in
-    let a = s .args in
-    let join = c .before .start .ensures ∙ ap (λ w. startOf (a .a) (a .b) w (a .offset)) (toZ-ofZ (s .fits .width)) in
-    answer-checked (a .width) (near s) (refusal (t .before)) (startOf (a .a) (a .b) (a .width) (a .offset)) (t .if1 .taken) (c .checked .ensures) join
+    answer-made cornerLimit (s .args .width) (near s) (refusal (t .before)) _ (t .if1 .taken) (cc (toZ-ofZ (s .fits .width)))
 
 returns-2 : tie.Need-returns-2
 unfolding startAnswer
 returns-2 c =
     let s = c .before .before .before in
-    let a = s .args in
-    answer-refused (a .width) (near s) (refusal (c .before)) (startOf (a .a) (a .b) (a .width) (a .offset)) (c .if1 .left)
+    answer-refused cornerLimit (s .args .width) (near s) (refusal (c .before)) _ (c .if1 .left)
 
 pub start-spec : {M : Type 1} → statement M
-start-spec =
-    tie.close
-    (tie.spec is-line-near-requires input-refusal-requires start-requires checked-requires returns returns-2)
+start-spec = tie.close (tie.spec (λ c κs. search needs) (λ c κs. search needs) start-requires (λ c κs. search needs) returns returns-2)

@@ -1,16 +1,12 @@
-use mathlib.Core.Path.{sym, ap, _∙_}
 use borrow.Author.Needs.{needs}
-use Rattle.shapes.specs.Limits.{cornerLimit}
+use mathlib.Core.Path.{sym, ap, _∙_}
 use Rattle.line_join.specs.Answers.{capsValues, startCapsAnswer}
-use Rattle.line_join.proofs.Room.{join-near-iff}
+use Rattle.line_join.proofs.Room.{join-room}
 use Rattle.line_join.proofs.start_cap_lines.Statement.{statement}
 use Rattle.line_join.proofs.start_cap_lines.Tie as tie
 
-is-join-near-requires : tie.Need-is-join-near-requires
-is-join-near-requires c κs = search needs
-
 start-caps-requires : tie.Need-start-caps-requires
-start-caps-requires c κs = join-near-iff cornerLimit (c .before .before .args .join) .0 (sym (c .before .is-join-near .ensures) ∙ c .if1 .taken)
+start-caps-requires c κs = join-room (c .before .before .args .join) (sym (c .before .is-join-near .ensures) ∙ c .if1 .taken)
 
 returns : tie.Need-returns
 unfolding startCapsAnswer
@@ -21,4 +17,4 @@ unfolding startCapsAnswer
 returns-2 c = simp (sym (c .before .is-join-near .ensures) ∙ c .if1 .left)
 
 pub start-cap-lines-spec : {M : Type 1} → statement M
-start-cap-lines-spec = tie.close (tie.spec is-join-near-requires start-caps-requires returns returns-2)
+start-cap-lines-spec = tie.close (tie.spec (λ c κs. search needs) start-caps-requires returns returns-2)

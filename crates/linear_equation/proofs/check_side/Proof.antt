@@ -2,16 +2,13 @@ use mathlib.Core.Path.{_≡_, sym, _∙_, ap}
 use mathlib.Core.Bool.{true}
 use borrow.Author.Needs.{needs}
 use Rattle.shapes.specs.Limits.{crossingLimit}
-use Rattle.linear_equation.specs.Equation.{areNear, isOnSide, sideAnswer}
+use Rattle.linear_equation.specs.Equation.{areInside, isOnSide, sideAnswer}
 use Rattle.linear_equation.proofs.Laws.{tame, near-line, near-point}
 use Rattle.linear_equation.proofs.check_side.Statement.{statement}
 use Rattle.linear_equation.proofs.check_side.Tie as tie
 
-inside : (c : tie.Then1) → areNear crossingLimit (c .before .before .args .line) (c .before .before .args .point) ≡ true
+inside : (c : tie.Then1) → areInside crossingLimit (c .before .before .args .line) (c .before .before .args .point) ≡ true
 inside c = sym (c .before .are-near .ensures) ∙ c .if1 .taken
-
-are-near-requires : tie.Need-are-near-requires
-are-near-requires c κs = search needs
 
 from-line-requires : tie.Need-from-line-requires
 from-line-requires c κs = let a = c .before .before .args in near-line (a .line) (a .point) (inside c)
@@ -34,4 +31,4 @@ unfolding sideAnswer
 returns-2 c = simp (sym (c .before .are-near .ensures) ∙ c .if1 .left)
 
 pub check-side-spec : {M : Type 1} → statement M
-check-side-spec = tie.close (tie.spec are-near-requires from-line-requires check-side-requires returns returns-2)
+check-side-spec = tie.close (tie.spec (λ c κs. search needs) from-line-requires check-side-requires returns returns-2)

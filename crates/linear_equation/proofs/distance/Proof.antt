@@ -4,16 +4,13 @@ use borrow.Author.Needs.{needs}
 use mir.Facts.{toZ-ofZ}
 use mir.Syntax.{w64}
 use Rattle.shapes.specs.Limits.{crossingLimit}
-use Rattle.linear_equation.specs.Equation.{areNear, distanceOf, distanceAnswer}
+use Rattle.linear_equation.specs.Equation.{areInside, distanceOf, distanceAnswer}
 use Rattle.linear_equation.proofs.Laws.{tame, near-line, near-point}
 use Rattle.linear_equation.proofs.distance.Statement.{statement}
 use Rattle.linear_equation.proofs.distance.Tie as tie
 
-inside : (c : tie.Then1) → areNear crossingLimit (c .before .before .args .line) (c .before .before .args .point) ≡ true
+inside : (c : tie.Then1) → areInside crossingLimit (c .before .before .args .line) (c .before .before .args .point) ≡ true
 inside c = sym (c .before .are-near .ensures) ∙ c .if1 .taken
-
-are-near-requires : tie.Need-are-near-requires
-are-near-requires c κs = search needs
 
 from-line-requires : tie.Need-from-line-requires
 from-line-requires c κs = let a = c .before .before .args in near-line (a .line) (a .point) (inside c)
@@ -36,4 +33,4 @@ unfolding distanceAnswer
 returns-2 c = simp (sym (c .before .are-near .ensures) ∙ c .if1 .left)
 
 pub distance-spec : {M : Type 1} → statement M
-distance-spec = tie.close (tie.spec are-near-requires from-line-requires distance-requires returns returns-2)
+distance-spec = tie.close (tie.spec (λ c κs. search needs) from-line-requires distance-requires returns returns-2)

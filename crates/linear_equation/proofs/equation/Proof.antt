@@ -5,9 +5,6 @@ use Rattle.linear_equation.proofs.Laws.{line-room}
 use Rattle.linear_equation.proofs.equation.Statement.{statement}
 use Rattle.linear_equation.proofs.equation.Tie as tie
 
-is-line-near-requires : tie.Need-is-line-near-requires
-is-line-near-requires c κs = search needs
-
 from-line-requires : tie.Need-from-line-requires
 from-line-requires c κs = line-room (c .before .before .args .line) (sym (c .before .is-line-near .ensures) ∙ c .if1 .taken)
 
@@ -20,4 +17,4 @@ unfolding equationAnswer
 returns-2 c = simp (sym (c .before .is-line-near .ensures) ∙ c .if1 .left)
 
 pub equation-spec : {M : Type 1} → statement M
-equation-spec = tie.close (tie.spec is-line-near-requires from-line-requires returns returns-2)
+equation-spec = tie.close (tie.spec (λ c κs. search needs) from-line-requires returns returns-2)

@@ -1,43 +1,44 @@
--- `route::refusal` meets its contract. Assumes nothing.
-use mathlib.Core.Path.{_≡_, ap, _∙_}
-use mir.Facts.{toZ-ofZ}
-use Rattle.route.specs.Answers.{preparedOf}
-use Rattle.route.specs.Rows.{rowsRefusal}
-use Rattle.route.proofs.Ranges.{rows-near}
-use Rattle.route.proofs.Chains.{Ready, ready, refused-with, whole-refused, whole-made}
 use borrow.Author.Needs.{needs}
 use Rattle.route.proofs.refusal.Statement.{statement}
 use Rattle.route.proofs.refusal.Tie as tie
+use Rattle.route.proofs.refusal.Reads as reads
+use Rattle.route.proofs.refusal.Lts as lts
+use Rattle.route.proofs.inner.prepare.Reads as prepare-reads
+use Rattle.route.proofs.inner.rows_of.Reads as rows-of-reads
+use Rattle.route.proofs.inner.rows_refusal.Reads as rows-refusal-reads
+use Rattle.shapes.proofs.limits.panel.Reads as panel-reads
 
-told : (c : tie.After-prepare) → let a = c .before .args in c .prepare .result ≡ preparedOf (a .closed) (a .coordinates .now) (a .width)
-told c = let a = c .before .args in c .prepare .ensures ∙ ap (preparedOf (a .closed) (a .coordinates .now)) (toZ-ofZ (c .before .fits .width))
+-- src/lib.rt:72:53
+panel-requires : tie.Need-panel-requires
+panel-requires c κs = search needs
 
--- nothing refuses the route
-free : (c : tie.Else1) → let p = c .before .before in let a = p .before .args in Ready (a .closed) (a .coordinates .now) (a .width) (p .prepare .result .joins)
-free c = let p = c .before .before in let a = p .before .args in ready (a .closed) (a .coordinates .now) (a .width) (told p) (c .if1 .left)
-
+-- src/lib.rt:72:9
 prepare-requires : tie.Need-prepare-requires
-prepare-requires c κs = search needs
+prepare-requires c κs = ?
 
+-- src/lib.rt:74:9
 returns : tie.Need-returns
-returns c =
-    let p = c .before .before in
-    let a = p .before .args in
-    whole-refused (a .closed) (a .coordinates .now) (a .width) (refused-with (a .closed) (a .coordinates .now) (a .width) (told p)) (c .if1 .taken)
+returns c = ?
 
+-- src/lib.rt:76:31
 rows-of-requires : tie.Need-rows-of-requires
-rows-of-requires c κs = free c .kept
+rows-of-requires c κs = ?
 
+-- src/lib.rt:76:5
 rows-refusal-requires : tie.Need-rows-refusal-requires
-rows-refusal-requires c κs = let kept = free (c .before) .kept in (kept, rw (c .rows-of .ensures) (rows-near kept))
+rows-refusal-requires c κs = ?
 
+-- src/lib.rt:69:1
 returns-2 : tie.Need-returns-2
-returns-2 c =
-    let p = c .before .before .before .before in
-    let a = p .before .args in
-    c .rows-refusal .ensures ∙ ap (rowsRefusal (p .prepare .result .joins)) (c .before .rows-of .ensures)
-    ∙ whole-made (a .closed) (a .coordinates .now) (a .width) (free (c .before .before))
+returns-2 c = ?
 
 pub refusal-spec : {M : Type 1} → statement M
 refusal-spec =
-    tie.close (tie.spec prepare-requires returns rows-of-requires rows-refusal-requires returns-2)
+    tie.close
+    (tie.spec
+    panel-requires
+    prepare-requires
+    returns
+    rows-of-requires
+    rows-refusal-requires
+    returns-2)

@@ -1,7 +1,7 @@
 -- `route_file::route_count` meets its contract. Assumes nothing.
 use borrow.Author.Needs.{needs}
 use mathlib.Core.Path.{_≡_, sym, _∙_}
-use mathlib.Core.Bool.{true, false}
+use mathlib.Core.Bool.{true}
 use borrow.Author.Tests.{not-true, not-false}
 use Rattle.route_file.specs.Form.{isFormed}
 use Rattle.route_file.specs.Answers.{formRefusal, counted}

@@ -1,23 +1,22 @@
-use mathlib.Core.Path.{_≡_, sym, _∙_}
+use mathlib.Core.Path.{sym, _∙_}
 use borrow.Author.Needs.{needs}
 use borrow.Author.Tests.{ne-eqb}
-use Rattle.scanline.specs.Answers.{meetRefusal, meetAnswer}
-use Rattle.scanline.proofs.Refused.{line-room}
+use lib.Dec.{lit≤}
+use Rattle.shapes.specs.Limits.{cornerLimit}
+use Rattle.shapes.proofs.Laws.{line-near-more}
+use Rattle.scanline.specs.Answers.{meetAnswer}
+use Rattle.scanline.proofs.Answers.{meet-none}
 use Rattle.scanline.proofs.meet.Statement.{statement}
 use Rattle.scanline.proofs.meet.Tie as tie
 
-meet-refusal-requires : tie.Need-meet-refusal-requires
-meet-refusal-requires c κs = search needs
-
-accepted : (c : tie.Then1) → meetRefusal (c .before .before .args .span) (c .before .before .args .line) ≡ 0
-accepted c = sym (c .before .meet-refusal .ensures) ∙ c .if1 .taken
-
 meet-requires : tie.Need-meet-requires
-meet-requires c κs = let a = c .before .before .args in line-room (a .span) (a .line) (accepted c)
+meet-requires c κs =
+    let a = c .before .before .args in
+    line-near-more (meet-none cornerLimit (a .span) (a .line) .0 (sym (c .before .meet-refusal .ensures) ∙ c .if1 .taken) .0) (lit≤ tt)
 
 returns : tie.Need-returns
 unfolding meetAnswer
-returns c = simp (accepted (c .before), c .meet .ensures)
+returns c = let t = c .before in simp (sym (t .before .meet-refusal .ensures) ∙ t .if1 .taken, c .meet .ensures)
 
 returns-2 : tie.Need-returns-2
 unfolding meetAnswer
@@ -26,4 +25,4 @@ returns-2 c =
     rw (← e .ensures) (simp (ne-eqb (e .result) 0 (c .if1 .left)))
 
 pub meet-spec : {M : Type 1} → statement M
-meet-spec = tie.close (tie.spec meet-refusal-requires meet-requires returns returns-2)
+meet-spec = tie.close (tie.spec (λ c κs. search needs) meet-requires returns returns-2)

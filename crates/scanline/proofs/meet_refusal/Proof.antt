@@ -4,12 +4,6 @@ use Rattle.scanline.specs.Answers.{meetRefusal}
 use Rattle.scanline.proofs.meet_refusal.Statement.{statement}
 use Rattle.scanline.proofs.meet_refusal.Tie as tie
 
-is-line-near-requires : tie.Need-is-line-near-requires
-is-line-near-requires c κs = search needs
-
-span-refusal-requires : tie.Need-span-refusal-requires
-span-refusal-requires c κs = search needs
-
 returns : tie.Need-returns
 unfolding meetRefusal
 returns c = c .span-refusal .ensures ∙ simp (sym (c .before .before .is-line-near .ensures) ∙ c .before .if1 .taken)
@@ -19,5 +13,4 @@ unfolding meetRefusal
 returns-2 c = simp (sym (c .before .is-line-near .ensures) ∙ c .if1 .left)
 
 pub meet-refusal-spec : {M : Type 1} → statement M
-meet-refusal-spec =
-    tie.close (tie.spec is-line-near-requires span-refusal-requires returns returns-2)
+meet-refusal-spec = tie.close (tie.spec (λ c κs. search needs) (λ c κs. search needs) returns returns-2)

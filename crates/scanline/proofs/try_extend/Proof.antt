@@ -5,12 +5,6 @@ use Rattle.scanline.specs.Answers.{tryExtendAnswer}
 use Rattle.scanline.proofs.try_extend.Statement.{statement}
 use Rattle.scanline.proofs.try_extend.Tie as tie
 
-join-refusal-requires : tie.Need-join-refusal-requires
-join-refusal-requires c κs = search needs
-
-try-extend-requires : tie.Need-try-extend-requires
-try-extend-requires c κs = search needs
-
 returns : tie.Need-returns
 unfolding tryExtendAnswer
 returns c =
@@ -24,4 +18,4 @@ returns-2 c =
     rw (← e .ensures) (simp (ne-eqb (e .result) 0 (c .if1 .left)))
 
 pub try-extend-spec : {M : Type 1} → statement M
-try-extend-spec = tie.close (tie.spec join-refusal-requires try-extend-requires returns returns-2)
+try-extend-spec = tie.close (tie.spec (λ c κs. search needs) (λ c κs. search needs) returns returns-2)

@@ -5,12 +5,6 @@ use Rattle.scanline.specs.Answers.{tryTakeAnswer}
 use Rattle.scanline.proofs.try_take.Statement.{statement}
 use Rattle.scanline.proofs.try_take.Tie as tie
 
-span-refusal-requires : tie.Need-span-refusal-requires
-span-refusal-requires c κs = search needs
-
-try-take-requires : tie.Need-try-take-requires
-try-take-requires c κs = search needs
-
 returns : tie.Need-returns
 unfolding tryTakeAnswer
 returns c =
@@ -20,8 +14,9 @@ returns c =
 returns-2 : tie.Need-returns-2
 unfolding tryTakeAnswer
 returns-2 c =
-    let e = c .before .span-refusal in
-    rw (← e .ensures) (simp (ne-eqb (e .result) 0 (c .if1 .left)))
+    let e = c .before in
+    let r = e .before .span-refusal in
+    rw (← r .ensures) (simp (ne-eqb (r .result) 0 (e .if1 .left), c .new-span .ensures))
 
 pub try-take-spec : {M : Type 1} → statement M
-try-take-spec = tie.close (tie.spec span-refusal-requires try-take-requires returns returns-2)
+try-take-spec = tie.close (tie.spec (λ c κs. search needs) (λ c κs. search needs) returns (λ c κs. search needs) returns-2)

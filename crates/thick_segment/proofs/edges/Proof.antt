@@ -10,12 +10,6 @@ use Rattle.thick_segment.proofs.edges.Tie as tie
 inside : (c : tie.Then1) → isSegmentNear cornerLimit (c .before .before .args .segment) ≡ true
 inside c = sym (c .before .is-segment-near .ensures) ∙ c .if1 .taken
 
-is-segment-near-requires : tie.Need-is-segment-near-requires
-is-segment-near-requires c κs = search needs
-
-edges-requires : tie.Need-edges-requires
-edges-requires c κs = search needs
-
 returns : tie.Need-returns
 unfolding edgesAnswer
 returns c = simp (inside (c .before), c .edges .ensures)
@@ -25,4 +19,4 @@ unfolding edgesAnswer
 returns-2 c = simp (sym (c .before .is-segment-near .ensures) ∙ c .if1 .left)
 
 pub edges-spec : {M : Type 1} → statement M
-edges-spec = tie.close (tie.spec is-segment-near-requires edges-requires returns returns-2)
+edges-spec = tie.close (tie.spec (λ c κs. search needs) (λ c κs. search needs) returns returns-2)

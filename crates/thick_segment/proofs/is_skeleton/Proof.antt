@@ -10,12 +10,6 @@ use Rattle.thick_segment.proofs.is_skeleton.Tie as tie
 inside : (c : tie.Then1) → isSegmentNear cornerLimit (c .before .before .args .segment) ≡ true
 inside c = sym (c .before .is-segment-near .ensures) ∙ c .if1 .taken
 
-is-segment-near-requires : tie.Need-is-segment-near-requires
-is-segment-near-requires c κs = search needs
-
-is-skeleton-requires : tie.Need-is-skeleton-requires
-is-skeleton-requires c κs = search needs
-
 returns : tie.Need-returns
 unfolding skeletonAnswer
 returns c = simp (inside (c .before), c .is-skeleton .ensures)
@@ -25,4 +19,4 @@ unfolding skeletonAnswer
 returns-2 c = simp (sym (c .before .is-segment-near .ensures) ∙ c .if1 .left)
 
 pub is-skeleton-spec : {M : Type 1} → statement M
-is-skeleton-spec = tie.close (tie.spec is-segment-near-requires is-skeleton-requires returns returns-2)
+is-skeleton-spec = tie.close (tie.spec (λ c κs. search needs) (λ c κs. search needs) returns returns-2)

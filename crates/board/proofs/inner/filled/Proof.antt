@@ -1,133 +1,67 @@
--- `board::inner::filled` meets its contract: what is left of the answer are the board's runs that are left. The measure is their
--- number. Assumes nothing.
-use mathlib.Core.Path.{_≡_, ap, _∙_}
-use mathlib.Core.List.{List, _∷_, _++_}
+-- What is left of the answer are the board's runs that are left. The measure is their number.
+use mathlib.Core.Path.{_≡_}
+use mathlib.Core.List.{_∷_, _++_}
 use Prim.Native.Nat.{_+_, _-_, _≤_, _<_}
 use native.Mathlib.Omega.{arith}
 use borrow.Author.Needs.{needs}
-use lib.ListN.{length, getD, take, drop, set, length-drop}
-use lib.Seq.{length-take-le}
+use lib.ListN.{length, getD, take, drop, set}
 use mir.Syntax.{w64}
 use mir.Facts.{toZ-ofZ}
-use Rattle.board.specs.declared.Run.{Run}
+use Rattle.board.specs.Runs.{noRun}
 use Rattle.board.specs.Boards.{live, boardOf}
-use Rattle.board.proofs.Arrays.{length-mapped, rest-more, rest-none, partly, fill-turn, fill-rest, fill-done}
-use Rattle.board.proofs.Halfway.{nothing, Put, put}
+use Rattle.board.specs.Fronts.{Filling, wholeOf}
+use Rattle.board.proofs.Arrays.{length-mapped}
+use Rattle.board.proofs.Fronts.{live-more, live-none, live-long, filling-turn, filling-length, filling-all, filling-done}
 use Rattle.board.proofs.inner.filled.Statement.{statement}
 use Rattle.board.proofs.inner.filled.Tie as tie
 
 abbrev Inv-loop : tie.InvT-loop
-Inv-loop board n runs₀ count₀ next₀ runs count next =
-    (next ≤ n) × ((count ≤ length (take count₀ runs₀ ++ drop next₀ (take n (board .runs))))
-    × ((drop count (take count₀ runs₀ ++ drop next₀ (take n (board .runs))) ≡ drop next (take n (board .runs)))
-    × (runs ≡ partly 32 nothing (take count₀ runs₀ ++ drop next₀ (take n (board .runs))) count)))
+Inv-loop board n runs₀ count₀ next₀ runs count next = (next ≤ n) × Filling runs count (drop next (live board)) (take count₀ runs₀ ++ drop next₀ (live board))
 
 abbrev μ-loop : tie.MeasureT-loop
 μ-loop board n runs₀ count₀ next₀ runs count next = n - next
 
--- ---- what is known from the start: lengths, and the run that is put after the front
+-- ---- the run is put after the front; what is left then is the board's
 
 module _ (s : tie.Start Inv-loop μ-loop) where
-  abbrev rs : List Run
-  rs = take (s .args .t1 .count) (s .args .t1 .runs)
+  long : length (s .args .t1 .runs) ≡ 32
+  long = search (needs, length-mapped)
 
-  -- the whole answer, as the loop has it
-  abbrev whole : List Run
-  whole = take (s .args .front .count + 1) (set (s .args .front .runs) (s .args .front .count) (s .args .front .run)) ++ drop (s .args .front .next) rs
+  room : s .args .front .count < 32
+  room = omega (arith, filling-length (s .pre .1 .0 .filling), s .pre .1 .1)
 
-  board-long : length (s .args .t1 .runs) ≡ 32
-  board-long = search (needs, length-mapped)
+  begun : let f = s .args .front in Filling (set (f .runs) (f .count) (f .run)) (f .count + 1) (drop (f .next) (live (s .args .t1))) (wholeOf f (live (s .args .t1)))
+  begun = filling-turn (s .pre .1 .0 .filling) room
 
-  front-long : length (s .args .front .runs) ≡ 32
-  front-long = search (needs, length-mapped)
+  -- the whole answer again, from there
+  again : let f = s .args .front in take (f .count + 1) (set (f .runs) (f .count) (f .run)) ++ drop (f .next) (live (s .args .t1)) ≡ wholeOf f (live (s .args .t1))
+  again = filling-all begun
 
-  rs-long : length rs ≡ s .args .t1 .count
-  rs-long = length-take-le (s .args .t1 .count) (s .args .t1 .runs) (omega (arith, board-long))
+-- ---- in a turn: the next run of the answer is the board's
 
-  known : Put (s .args .front) rs
-  unfolding live
-  known = let b = s .pre .1 .0 in put b front-long (omega (arith, b .fewer, b .inside, rs-long)) (s .pre .1 .1)
-
-  room-first : s .args .front .count < 32
-  unfolding live
-  room-first = omega (arith, known .place, s .pre .1 .1)
-
-  fits : length whole ≤ 32
-  unfolding live
-  fits = rw (known .again) (s .pre .1 .1)
-
--- in a turn of the loop: the next run of the answer is the board's
 module _ (c : tie.In-loop Inv-loop μ-loop) where
   abbrev start : tie.Start Inv-loop μ-loop
   start = c .before .before .before .before
 
-  next-left : drop (c .before .loop .count) (whole start) ≡ getD (start .args .t1 .runs) (c .before .loop .next) nothing ∷ drop (c .before .loop .next + 1) (rs start)
-  next-left =
-      c .before .loop .inv .1 .1 .0
-      ∙ rest-more (start .args .t1 .runs) (start .args .t1 .count) (c .before .loop .next) nothing (c .loop-test .taken) (omega (arith, board-long start, start .pre .0))
+  turn : let b = start .args .t1 in let f = start .args .front in let l = c .before .loop in
+      Filling (l .runs) (l .count) (getD (b .runs) (l .next) noRun ∷ drop (l .next + 1) (live b)) (take (f .count + 1) (set (f .runs) (f .count) (f .run)) ++ drop (f .next) (live b))
+  turn = rw (live-more (start .args .t1) (c .before .loop .next) (omega arith) (omega (arith, long start))) at (c .before .loop .inv .1)
 
-  below : c .before .loop .count < length (whole start)
-  below = let cut = length-drop (c .before .loop .count) (whole start) in let one = ap length next-left in omega arith
-
-  room : c .before .loop .count < 32
-  room = omega (arith, below, fits start)
-
-mul-runs : tie.Need-mul-runs Inv-loop μ-loop
-mul-runs c = omega (arith, room-first (c .before .before))
-
-array-set-from-runs : tie.Need-array-set-from-runs Inv-loop μ-loop
-array-set-from-runs c = room-first (c .before .before)
-
-add-count : tie.Need-add-count Inv-loop μ-loop
-add-count c = omega (arith, room-first (c .before .before))
+  below : c .before .loop .count < 32
+  below = omega (arith, filling-length (rw (again start) at turn), start .pre .1 .1)
 
 loop-holds : tie.Need-loop-holds Inv-loop μ-loop
-unfolding live
 loop-holds c =
     let s = c .before .before in
-    let k = known s in
-    (omega (arith, s .pre .1 .0 .inside, rs-long s), (rw (k .again) (omega (arith, k .place)), (rw (k .again) (k .left), rw (k .again) (k .filled))))
-
-mul-other : tie.Need-mul-other Inv-loop μ-loop
-mul-other c = omega arith
-
-element-copy-out-other : tie.Need-element-copy-out-other Inv-loop μ-loop
-element-copy-out-other c = omega arith
-
-mul-runs-2 : tie.Need-mul-runs-2 Inv-loop μ-loop
-mul-runs-2 c = omega (arith, room (c .before))
-
-array-set-from-runs-2 : tie.Need-array-set-from-runs-2 Inv-loop μ-loop
-array-set-from-runs-2 c = room (c .before)
-
-add-count-2 : tie.Need-add-count-2 Inv-loop μ-loop
-add-count-2 c = omega (arith, room (c .before))
-
-add-next : tie.Need-add-next Inv-loop μ-loop
-add-next c = omega arith
-
-loop-less : tie.Need-loop-less Inv-loop μ-loop
-loop-less c = omega arith
-
-loop-again : tie.Need-loop-again Inv-loop μ-loop
-loop-again c =
-    let t = c .before in
-    let l = t .before .loop in
-    let w = whole (start t) in
-    let other = getD (start t .args .t1 .runs) (l .next) nothing in
-    let rest = drop (l .next + 1) (rs (start t)) in
-    (omega arith, (omega (arith, below t), (fill-rest w rest (l .count) other (next-left t), rw (l .inv .1 .1 .1) (fill-turn 32 nothing w rest (l .count) other (room t) (next-left t)))))
+    (omega (arith, s .pre .1 .0 .inside, live-long (s .args .t1) (omega (arith, long s))), rw (again s) (begun s))
 
 returns : tie.Need-returns Inv-loop μ-loop
-unfolding boardOf live
+unfolding boardOf
 returns c =
-    let s = c .before .before in
-    let z = s .before .before .before in
-    let a = z .args in
-    let w = whole z in
-    let none = s .loop .inv .1 .1 .0 ∙ rest-none (a .t1 .runs) (a .t1 .count) (s .loop .next) (c .before .loop-test .left) (omega (arith, board-long z, z .pre .0)) in
-    let all : s .loop .count ≡ length w = let cut = length-drop (s .loop .count) w in let zero = ap length none in omega arith in
-    rw (toZ-ofZ {w = w64} {z = a .t1 .row} (search needs), s .loop .inv .1 .1 .1 ∙ fill-done 32 nothing w (s .loop .count) all, all, known z .again)
+    let l = c .before .before in
+    let s = l .before .before .before in
+    let done = filling-done (rw (live-none (s .args .t1) (l .loop .next) (omega arith), again s) at (l .loop .inv .1)) in
+    cc (toZ-ofZ {w = w64} {z = s .args .t1 .row} (search needs), done .0, done .1)
 
 pub filled-spec : {M : Type 1} → statement M
 filled-spec =
@@ -135,16 +69,16 @@ filled-spec =
     (tie.spec
     Inv-loop
     μ-loop
-    mul-runs
-    array-set-from-runs
-    add-count
+    (λ c. omega (arith, room (c .before .before)))
+    (λ c. room (c .before .before))
+    (λ c. omega (arith, room (c .before .before)))
     loop-holds
-    mul-other
-    element-copy-out-other
-    mul-runs-2
-    array-set-from-runs-2
-    add-count-2
-    add-next
-    loop-less
-    loop-again
+    (λ c. omega arith)
+    (λ c. omega arith)
+    (λ c. omega (arith, below (c .before)))
+    (λ c. below (c .before))
+    (λ c. omega (arith, below (c .before)))
+    (λ c. omega arith)
+    (λ c. omega arith)
+    (λ c. (omega arith, filling-turn (turn (c .before)) (below (c .before))))
     returns)

@@ -1,136 +1,83 @@
--- `board::inner::front_of` meets its contract: what is left of the answer is what the grown run makes of the runs that are left.
--- The measure is the number of runs that are left. Assumes nothing.
-use mathlib.Core.Path.{_≡_, refl, sym, ap, _∙_}
+-- What is left of the answer is what the grown run makes of the runs that are left. The measure is their number.
+use mathlib.Core.Path.{_≡_, _∙_}
 use mathlib.Core.List.{_∷_}
 use Prim.Native.Nat.{_+_, _-_, _≤_}
 use native.Mathlib.Omega.{arith}
 use borrow.Author.Needs.{needs}
-use lib.ListN.{length, getD, take, drop}
-use lib.Seq.{length-take-le}
+use lib.ListN.{length, getD, drop}
 use lib.Signed.{ltZ}
-use mathlib.Core.Bool.{false}
 use mir.Syntax.{w64}
-use mir.Val.{SFits}
-use Rattle.whole.proofs.Machine.{lt-back}
+use mir.Facts.{toZ-ofZ}
 use Rattle.board.specs.declared.Run.{Run}
-use Rattle.board.specs.declared.inner.Front.{Front}
-use Rattle.board.specs.Runs.{withRun}
-use Rattle.board.specs.Fronts.{wholeOf, Gathered}
+use Rattle.board.specs.Runs.{noRun, withRun}
 use Rattle.board.specs.Boards.{live}
-use Rattle.board.proofs.Arrays.{length-mapped, partly, fill-turn, fill-rest}
-use Rattle.board.proofs.Halfway.{nothing, with-after, with-before, with-touching, with-none, gathered-of}
+use Rattle.board.specs.Fronts.{Filling, Gathered}
+use Rattle.board.proofs.Arrays.{length-mapped}
+use Rattle.board.proofs.Fronts.{live-more, live-none, live-long, with-none, with-after, with-before, with-touching, filling-none, filling-turn}
 use Rattle.board.proofs.inner.front_of.Statement.{statement}
 use Rattle.board.proofs.inner.front_of.Tie as tie
 
 abbrev Inv-loop : tie.InvT-loop
 Inv-loop board n runs₀ count₀ grown₀ next₀ runs count grown next =
-    (next ≤ n) × ((count ≤ next) × ((drop count (withRun grown₀ (take n (board .runs))) ≡ withRun grown (drop next (take n (board .runs))))
-    × (runs ≡ partly 32 nothing (withRun grown₀ (take n (board .runs))) count)))
+    (next ≤ n) × ((count ≤ next) × Filling runs count (withRun grown (drop next (live board))) (withRun grown₀ (live board)))
 
 abbrev μ-loop : tie.MeasureT-loop
 μ-loop board n runs₀ count₀ grown₀ next₀ runs count grown next = n - next
 
-whole-of : (s : tie.Start Inv-loop μ-loop) → length (s .args .t1 .runs) ≡ 32
-whole-of s = search (needs, length-mapped)
+long : (s : tie.Start Inv-loop μ-loop) → length (s .args .t1 .runs) ≡ 32
+long s = search (needs, length-mapped)
 
--- ---- at a place of the loop: the run that is looked at, and that the numbers which are compared fit
+-- ---- in a turn: the run that is looked at comes first of those that are left, and is held against the grown one
 
-abbrev other : tie.At-loop Inv-loop μ-loop → Run
-other s = getD (s .before .args .t1 .runs) (s .loop .next) nothing
+module _ (c : tie.In-loop Inv-loop μ-loop) where
+  abbrev other : Run
+  other = getD (c .before .before .args .t1 .runs) (c .before .loop .next) noRun
 
-later-fits : (c : tie.After-struct-told2 Inv-loop μ-loop) → let s = c .before .before .before .before .before .before in SFits w64 (s .loop .grown .end) × SFits w64 (other s .start)
-later-fits c = (search needs, search needs)
+  abbrev grown : Run
+  grown = c .before .loop .grown
 
-earlier-fits : (c : tie.After-struct-told4 Inv-loop μ-loop) → let s = c .before .before .before .before .before .before .before .before .before .before .before in SFits w64 (other s .end) × SFits w64 (s .loop .grown .start)
-earlier-fits c = (search needs, search needs)
+  next : let rs = live (c .before .before .args .t1) in drop (c .before .loop .next) rs ≡ other ∷ drop (c .before .loop .next + 1) rs
+  next = live-more (c .before .before .args .t1) (c .before .loop .next) (omega arith) (omega (arith, long (c .before .before)))
 
--- the first test failed, and so the second was made
-not-later : (c : tie.Else1 Inv-loop μ-loop) → let s = c .before .before .before .before .before .before .before in ltZ (s .loop .grown .end) (other s .start) ≡ false
-not-later c = let f = later-fits (c .before) in lt-back (f .0) (f .1) (c .if1 .left)
+after : (c : tie.After-ends-before Inv-loop μ-loop) → let t = c .before .before .before in ltZ (grown t .end) (other t .start) ≡ c .ends-before .result
+after c = let t = c .before .before .before in cc (toZ-ofZ {w = w64} {z = other t .start} (search needs))
 
--- the front as it is where the loop is left
-front-at : (s : tie.At-loop Inv-loop μ-loop) → Front
-front-at s = record { runs = s .loop .runs; count = s .loop .count; run = s .loop .grown; next = s .loop .next }
+before : (c : tie.After-ends-before2 Inv-loop μ-loop) → let t = c .before .before .before .before .before .before in ltZ (other t .end) (grown t .start) ≡ c .ends-before2 .result
+before c = let t = c .before .before .before .before .before .before in cc (toZ-ofZ {w = w64} {z = grown t .start} (search needs))
 
-done : (s : tie.At-loop Inv-loop μ-loop) → let b = s .before .args .t1 in
-    withRun (s .loop .grown) (drop (s .loop .next) (take (b .count) (b .runs))) ≡ s .loop .grown ∷ drop (s .loop .next) (take (b .count) (b .runs))
-    → Gathered (front-at s) (live b) × (wholeOf (front-at s) (live b) ≡ withRun (s .before .args .run) (live b))
-unfolding front-at live
+-- the front where the loop is left
+done : (s : tie.At-loop Inv-loop μ-loop) → let b = s .before .args .t1 in let rest = drop (s .loop .next) (live b) in
+    withRun (s .loop .grown) rest ≡ s .loop .grown ∷ rest
+    → Gathered (record { runs = s .loop .runs; count = s .loop .count; run = s .loop .grown; next = s .loop .next }) (live b) (withRun (s .before .args .run) (live b))
 done s e =
-    let b = s .before .args .t1 in
-    let long = whole-of (s .before) in
-    let part = length-take-le (b .count) (b .runs) (omega arith) in
-    gathered-of (front-at s) (withRun (s .before .args .run) (live b)) (live b) (omega arith) (omega arith) (s .loop .inv .1 .1 .1) (s .loop .inv .1 .1 .0 ∙ e)
-
-loop-holds : tie.Need-loop-holds Inv-loop μ-loop
-loop-holds c = (search needs, (search needs, (refl, refl)))
-
-mul-other : tie.Need-mul-other Inv-loop μ-loop
-mul-other c = omega arith
-
-element-copy-out-other : tie.Need-element-copy-out-other Inv-loop μ-loop
-element-copy-out-other c = omega arith
+    record {
+      filling = rw e at (s .loop .inv .1 .1);
+      fewer = s .loop .inv .1 .0;
+      inside = omega (arith, live-long (s .before .args .t1) (omega (arith, long (s .before))));
+    }
 
 returns : tie.Need-returns Inv-loop μ-loop
-unfolding front-at live
 returns c =
-    let s = c .before .before .before .before .before .before .before in
-    let b = s .before .args .t1 in
-    let long = whole-of (s .before) in
-    let f = later-fits (c .before) in
-    done s (with-after (s .loop .grown) (b .runs) (b .count) (s .loop .next) (omega arith) (omega arith) (lt-back (f .0) (f .1) (c .if1 .taken)))
-
-add-next : tie.Need-add-next Inv-loop μ-loop
-add-next c = omega arith
-
-mul-runs : tie.Need-mul-runs Inv-loop μ-loop
-mul-runs c = omega arith
-
-array-set-from-runs : tie.Need-array-set-from-runs Inv-loop μ-loop
-array-set-from-runs c = omega arith
-
-add-count : tie.Need-add-count Inv-loop μ-loop
-add-count c = omega arith
-
-loop-less : tie.Need-loop-less Inv-loop μ-loop
-loop-less c = omega arith
+    let t = c .before .before .before .before in
+    done (t .before) (with-after (grown t) (next t) (after (c .before) ∙ c .if1 .taken))
 
 loop-again : tie.Need-loop-again Inv-loop μ-loop
 loop-again c =
-    let e = c .before .before .before .before .before in
-    let s = e .before .before .before .before .before .before .before in
-    let b = s .before .args .t1 in
-    let long = whole-of (s .before) in
-    let f = earlier-fits (c .before) in
-    let left = s .loop .inv .1 .1 .0 ∙ with-before (s .loop .grown) (b .runs) (b .count) (s .loop .next) (omega arith) (omega arith) (not-later e) (lt-back (f .0) (f .1) (c .if2 .taken)) in
-    let t = withRun (s .before .args .run) (take (b .count) (b .runs)) in
-    let rest = withRun (s .loop .grown) (drop (s .loop .next + 1) (take (b .count) (b .runs))) in
-    (omega arith, (omega arith, (fill-rest t rest (s .loop .count) (other s) left, rw (s .loop .inv .1 .1 .1) (fill-turn 32 nothing t rest (s .loop .count) (other s) (omega arith) left))))
-
-joined-requires : tie.Need-joined-requires Inv-loop μ-loop
-joined-requires c κs = tt
-
-loop-less-2 : tie.Need-loop-less-2 Inv-loop μ-loop
-loop-less-2 c = omega arith
+    let e = c .before .before .before in
+    let t = e .before .before .before .before in
+    let one = with-before (grown t) (next t) (after (e .before) ∙ e .if1 .left) (before (c .before) ∙ c .if2 .taken) in
+    (omega arith, (omega arith, filling-turn (rw one at (t .before .loop .inv .1 .1)) (omega arith)))
 
 loop-again-2 : tie.Need-loop-again-2 Inv-loop μ-loop
 loop-again-2 c =
-    let d = c .before in
-    let e = d .before .before .before .before .before in
-    let s = e .before .before .before .before .before .before .before in
-    let b = s .before .args .t1 in
-    let long = whole-of (s .before) in
-    let f = earlier-fits (d .before) in
-    let left = s .loop .inv .1 .1 .0 ∙ with-touching (s .loop .grown) (b .runs) (b .count) (s .loop .next) (omega arith) (omega arith) (not-later e) (lt-back (f .0) (f .1) (d .if2 .left)) in
-    (omega arith, (omega arith, (left ∙ ap (λ r. withRun r (drop (s .loop .next + 1) (take (b .count) (b .runs)))) (sym (c .joined .ensures)), s .loop .inv .1 .1 .1)))
+    let o = c .before in
+    let e = o .before .before .before in
+    let t = e .before .before .before .before in
+    let one = with-touching (grown t) (next t) (after (e .before) ∙ e .if1 .left) (before (o .before) ∙ o .if2 .left) in
+    (omega arith, (omega arith, rw (c .joined .ensures) (rw one at (t .before .loop .inv .1 .1))))
 
 returns-2 : tie.Need-returns-2 Inv-loop μ-loop
-unfolding front-at live
-returns-2 c =
-    let s = c .before in
-    let b = s .before .args .t1 in
-    let long = whole-of (s .before) in
-    done s (with-none (s .loop .grown) (b .runs) (b .count) (s .loop .next) (omega arith) (omega arith))
+returns-2 c = done (c .before) (with-none (c .before .loop .grown) (live-none (c .before .before .args .t1) (c .before .loop .next) (omega arith)))
 
 pub front-of-spec : {M : Type 1} → statement M
 front-of-spec =
@@ -138,17 +85,19 @@ front-of-spec =
     (tie.spec
     Inv-loop
     μ-loop
-    loop-holds
-    mul-other
-    element-copy-out-other
+    (λ c. (search needs, (search needs, filling-none _)))
+    (λ c. omega arith)
+    (λ c. omega arith)
+    (λ c κs. tt)
     returns
-    add-next
-    mul-runs
-    array-set-from-runs
-    add-count
-    loop-less
+    (λ c. omega arith)
+    (λ c κs. tt)
+    (λ c. omega arith)
+    (λ c. omega arith)
+    (λ c. omega arith)
+    (λ c. omega arith)
     loop-again
-    joined-requires
-    loop-less-2
+    (λ c κs. tt)
+    (λ c. omega arith)
     loop-again-2
     returns-2)

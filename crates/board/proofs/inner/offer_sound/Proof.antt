@@ -1,94 +1,88 @@
--- `board::inner::offer_sound` meets its contract. Assumes nothing.
-use mathlib.Core.Path.{_≡_, sym, ap, _∙_}
-use mathlib.Core.Bool.{true}
+use mathlib.Core.Path.{_≡_}
+use mathlib.Core.List.{List}
 use Prim.Native.Nat.{_+_, _-_, _≤_}
 use native.Mathlib.Omega.{arith}
 use borrow.Author.Needs.{needs}
-use lib.ListN.{length}
-use lib.Seq.{length-take-le}
+use borrow.Author.Tests.{le-leb, lt-leb}
+use lib.ListN.{length, length-drop}
+use Rattle.shapes.specs.Limits.{boardRuns}
+use Rattle.board.specs.declared.Run.{Run}
+use Rattle.board.specs.declared.Board.{Board}
+use Rattle.board.specs.declared.inner.Front.{Front}
 use Rattle.board.specs.Runs.{withRun}
-use Rattle.board.specs.Boards.{live, boardOf, isSome, withSpan}
-use Rattle.board.specs.Fronts.{wholeOf}
+use Rattle.board.specs.Boards.{live, spanRun, added}
+use Rattle.board.specs.Fronts.{Gathered, wholeOf}
 use Rattle.board.proofs.Arrays.{length-mapped}
-use Rattle.board.proofs.Laws.{spanned-by, offered-room, offered-full, offered-empty}
-use Rattle.board.proofs.Halfway.{whole-length}
+use Rattle.board.proofs.Fronts.{live-long, filling-length, filling-all}
 use Rattle.board.proofs.inner.offer_sound.Statement.{statement}
 use Rattle.board.proofs.inner.offer_sound.Tie as tie
 
 -- ---- what is known once the front is made
 
 module _ (c : tie.After-front-of) where
-  abbrev start : tie.Start
-  start = c .before .before .before .before
+  abbrev b : Board
+  b = c .before .before .before .before .args .board
 
-  some : isSome (start .args .span) ≡ true
-  some = let t = c .before .before in sym (t .before .is-some .ensures) ∙ t .if1 .taken
+  abbrev union : List Run
+  union = withRun (spanRun (c .before .before .before .before .args .span)) (live b)
 
-  whole-is : wholeOf (c .front-of .result) (live (start .args .board)) ≡ withSpan (start .args .span) (live (start .args .board))
-  whole-is =
-      c .front-of .ensures .1
-      ∙ (ap (λ r. withRun r (live (start .args .board))) (c .before .run-of .ensures) ∙ sym (spanned-by (start .args .span) (live (start .args .board)) some))
+  abbrev front : Front
+  front = c .front-of .result
 
-  record Count : Type 0 where
-    next : c .front-of .result .next ≤ start .args .board .count
-    few : c .front-of .result .count ≤ 32
-    all : length (withSpan (start .args .span) (live (start .args .board))) ≡ c .front-of .result .count + (1 + (start .args .board .count - c .front-of .result .next))
+  gathered : Gathered front (live b) union
+  gathered = rw (c .before .run-of .ensures) at (c .front-of .ensures)
 
-  board-long : length (start .args .board .runs) ≡ 32
-  board-long = search (needs, length-mapped)
+  whole-is : wholeOf front (live b) ≡ union
+  unfolding wholeOf
+  whole-is = filling-all (gathered .filling)
 
-  front-long : length (c .front-of .result .runs) ≡ 32
-  front-long = search (needs, length-mapped)
+  long : length (live b) ≡ b .count
+  long = live-long b (omega (arith, array))
+    where
+      array : length (b .runs) ≡ 32
+      array = search (needs, length-mapped)
 
-  count : Count
-  unfolding live
-  count =
-      let b = c .front-of .ensures .0 in
-      let bound = start .pre .sound .few in
-      let rs = length-take-le (start .args .board .count) (start .args .board .runs) (omega (arith, board-long)) in
-      let few : c .front-of .result .count ≤ 32 = omega (arith, b .fewer, b .inside) in
-      record { next = omega (arith, b .inside); few = few; all = ap length (sym whole-is) ∙ (whole-length b front-long few ∙ ap (λ n. c .front-of .result .count + (1 + (n - c .front-of .result .next))) rs) }
+  next-in : front .next ≤ b .count
+  next-in = omega (arith, gathered .inside, long)
 
-is-some-requires : tie.Need-is-some-requires
-is-some-requires c κs = search needs
-
-run-of-requires : tie.Need-run-of-requires
-run-of-requires c κs = search needs
-
-front-of-requires : tie.Need-front-of-requires
-front-of-requires c κs = search needs
-
-sub-if2 : tie.Need-sub-if2
-sub-if2 c = count (c .before .before) .next
-
-add-if2 : tie.Need-add-if2
-add-if2 c = search needs
+  size : length union ≡ front .count + (1 + (b .count - front .next))
+  size = omega (arith, filling-length (gathered .filling), length-drop (front .next) (live b), long)
 
 filled-requires : tie.Need-filled-requires
 filled-requires c κs =
     let d = c .before .before .before .before in
-    let k = count d in
-    (start d .pre .sound .few, (d .front-of .ensures .0, rw (whole-is d) (omega (arith, k .all))))
+    (d .before .before .before .before .pre, (rw (whole-is d) (gathered d), rw (whole-is d) (omega (arith, size d))))
 
 returns : tie.Need-returns
-returns c =
-    let t = c .before in
-    let d = t .before .before .before .before in
-    let k = count d in
-    let b = start d .args .board in
-    ap (λ x. record { refusal = 0; board = x }) (c .filled .ensures ∙ ap (boardOf (b .row)) (whole-is d))
-    ∙ sym (offered-room (start d .pre) (some d) (omega (arith, k .all)))
+unfolding added
+returns c = rw (← c .before .is-empty .ensures, c .if1 .taken)
 
 returns-2 : tie.Need-returns-2
+unfolding added
 returns-2 c =
-    let d = c .before .before .before .before in
-    let k = count d in
-    sym (offered-full (start d .pre) (omega (arith, k .all)))
+    let d = c .before .before .before .before .before in
+    let e = d .before .before in
+    let few : length (union d) ≤ boardRuns = omega (arith, size d, c .before .if2 .taken) in
+    rw (← e .before .is-empty .ensures, e .if1 .left, le-leb (length (union d)) boardRuns few) (cc (whole-is d))
 
 returns-3 : tie.Need-returns-3
-returns-3 c = sym (offered-empty (c .before .before .pre) (sym (c .before .is-some .ensures) ∙ c .if1 .left))
+unfolding added
+returns-3 c =
+    let d = c .before .before .before .before .before in
+    let e = d .before .before in
+    rw (← e .before .is-empty .ensures, e .if1 .left, lt-leb (length (union d)) boardRuns (omega (arith, size d, c .before .if2 .left))) (c .refused .ensures)
 
 pub offer-sound-spec : {M : Type 1} → statement M
 offer-sound-spec =
     tie.close
-    (tie.spec is-some-requires run-of-requires front-of-requires sub-if2 add-if2 filled-requires returns returns-2 returns-3)
+    (tie.spec
+    (λ c κs. search needs)
+    returns
+    (λ c κs. search needs)
+    (λ c κs. search needs)
+    (λ c. next-in (c .before .before))
+    (λ c. search needs)
+    filled-requires
+    returns-2
+    (λ c κs. search needs)
+    returns-3)

@@ -1,71 +1,51 @@
--- `board::inner::write_runs` meets its contract: the first i runs are written. The measure is the number of those that are left.
--- Assumes nothing.
+-- The numbers of the first i runs are written. The measure is the number of runs that are left.
 use mathlib.Core.Path.{_≡_, refl, ap, _∙_}
-use Prim.Native.Nat.{_-_, _≤_}
+use Prim.Native.Nat.{_-_, _*_, _≤_}
 use native.Mathlib.Omega.{arith}
 use borrow.Author.Needs.{needs}
 use denote.Ref.{now}
-use lib.ListN.{length, take, length-set}
+use lib.ListN.{length}
 use Rattle.board.specs.Runs.{flat}
 use Rattle.board.specs.Boards.{live, over}
-use Rattle.board.proofs.Arrays.{length-mapped}
-use Rattle.board.proofs.Listing.{over-turn}
+use Rattle.board.proofs.Arrays.{length-mapped, pasted, paste-length, paste-done}
+use Rattle.board.proofs.Fronts.{live-more, live-long}
+use Rattle.board.proofs.Listing.{flat-length, flat-turn}
 use Rattle.board.proofs.inner.write_runs.Statement.{statement}
 use Rattle.board.proofs.inner.write_runs.Tie as tie
 
 abbrev Inv-loop : tie.InvT-loop
-Inv-loop out₀ board n i₀ out i = (i ≤ n) × ((length out ≡ length out₀) × (out ≡ over out₀ (take i (board .runs))))
+Inv-loop out₀ board n i₀ out i = (i ≤ n) × (out ≡ pasted (flat (live board)) out₀ (2 * i))
 
 abbrev μ-loop : tie.MeasureT-loop
 μ-loop out₀ board n i₀ out i = n - i
 
-whole-of : (s : tie.Start Inv-loop μ-loop) → length (s .args .t1 .runs) ≡ 32
-whole-of s = search (needs, length-mapped)
+-- ---- lengths
 
-loop-holds : tie.Need-loop-holds Inv-loop μ-loop
-unfolding over flat
-loop-holds c = (search needs, (refl, refl))
+array : (s : tie.Start Inv-loop μ-loop) → length (s .args .t1 .runs) ≡ 32
+array s = search (needs, length-mapped)
 
-mul-run : tie.Need-mul-run Inv-loop μ-loop
-mul-run c = omega arith
+module _ (s : tie.At-loop Inv-loop μ-loop) where
+  long : length (live (s .before .args .t1)) ≡ s .before .args .t1 .count
+  long = live-long (s .before .args .t1) (omega (arith, array (s .before)))
 
-element-copy-out-run : tie.Need-element-copy-out-run Inv-loop μ-loop
-element-copy-out-run c = omega arith
-
-mul-put-run : tie.Need-mul-put-run Inv-loop μ-loop
-mul-put-run c = omega arith
-
-put-run-requires : tie.Need-put-run-requires Inv-loop μ-loop
-put-run-requires c κs = omega arith
-
-add-i : tie.Need-add-i Inv-loop μ-loop
-add-i c = omega arith
-
-loop-less : tie.Need-loop-less Inv-loop μ-loop
-loop-less c = omega arith
+  kept : length (s .loop .out) ≡ length (now (s .before .args .out))
+  kept =
+      ap length (s .loop .inv .1)
+      ∙ paste-length (flat (live (s .before .args .t1))) (now (s .before .args .out)) (2 * s .loop .i) (omega (arith, flat-length (live (s .before .args .t1)), long)) (omega arith)
 
 loop-again : tie.Need-loop-again Inv-loop μ-loop
 loop-again c =
-    let p = c .before .before .before .before .before in
-    let a = p .before .args in
-    let put = c .before .put-run .ensures in
-    let whole = whole-of (p .before) in
-    let kept = simp length-set at (ap length put) in (
-      omega arith,
-      (
-        kept ∙ p .loop .inv .1 .0,
-        put ∙ rw (p .loop .inv .1 .1) (over-turn (now (a .out)) (a .t1 .runs) (p .loop .i) (omega arith) (omega arith)),
-      ),
-    )
-
-same-length : tie.Need-same-length Inv-loop μ-loop
-same-length c = c .before .loop .inv .1 .0
+    let s = c .before .before .before .before .before in
+    let b = s .before .args .t1 in
+    let next = live-more b (s .loop .i) (omega arith) (omega (arith, array (s .before))) in
+    (omega arith, c .before .put-run .ensures ∙ rw (s .loop .inv .1) (flat-turn (live b) _ (now (s .before .args .out)) (s .loop .i) _ (omega arith) next))
 
 returns : tie.Need-returns Inv-loop μ-loop
-unfolding live
+unfolding over
 returns c =
-    let e : c .before .loop .i ≡ c .before .before .args .t1 .count = omega arith in
-    rw (← e) (c .before .loop .inv .1 .1)
+    let rs = live (c .before .before .args .t1) in
+    let all : 2 * c .before .loop .i ≡ length (flat rs) = omega (arith, flat-length rs, long (c .before)) in
+    c .before .loop .inv .1 ∙ rw (← flat-length rs) (paste-done (flat rs) (now (c .before .before .args .out)) (2 * c .before .loop .i) all)
 
 pub write-runs-spec : {M : Type 1} → statement M
 write-runs-spec =
@@ -73,13 +53,13 @@ write-runs-spec =
     (tie.spec
     Inv-loop
     μ-loop
-    loop-holds
-    mul-run
-    element-copy-out-run
-    mul-put-run
-    put-run-requires
-    add-i
-    loop-less
+    (λ c. (search needs, refl))
+    (λ c. omega arith)
+    (λ c. omega arith)
+    (λ c. omega arith)
+    (λ c κs. omega (arith, kept (c .before .before .before)))
+    (λ c. omega arith)
+    (λ c. omega arith)
     loop-again
-    same-length
+    (λ c. kept (c .before))
     returns)

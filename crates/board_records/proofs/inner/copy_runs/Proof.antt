@@ -5,12 +5,11 @@
 use mathlib.Core.Path.{_≡_, refl, sym, ap, subst, _∙_}
 use Prim.Native.Nat.{ℕ, zero, suc, _+_, _<_, _≤_, _^_}
 use native.Mathlib.Nat.{add-zero, zero-add}
-use native.Mathlib.Numerals.{add-one}
 use native.Mathlib.Omega.{arith}
 use mathlib.Core.Bool.{Bool}
-use mathlib.Core.List.{[], _∷_, List, _++_}
-use lib.ListN.{length, getD, set, take, drop, length-append, length-take, length-drop}
-use lib.Seq.{paste-suc, length-take-le}
+use mathlib.Core.List.{[], _∷_, List}
+use lib.ListN.{length, getD, set, take}
+use lib.Seq.{drop-cons, length-take-le}
 use lib.Dec.{lit<}
 use lib.WfN.{Nat·lt-wfRel}
 use borrow.Author.Needs.{needs}
@@ -56,18 +55,18 @@ use denote.Exit.{yes}
 use Rattle.shapes.specs.Limits.{boardRuns}
 use Rattle.board.specs.declared.Run.{Run}
 use Rattle.board.specs.declared.Board.{Board}
-use Rattle.board.proofs.Arrays.{length-mapped}
-use Rattle.board.proofs.Halfway.{nothing as no-run}
+use Rattle.board.proofs.Arrays.{length-mapped, pasted, paste-length, paste-turn}
+use Rattle.board.specs.Runs.{noRun}
 use Rattle.board.proofs.Run as T
 use Rattle.board.proofs.Run.Laws as T′
 use Rattle.board.proofs.Board as B
 use Rattle.board.proofs.Board.Laws as B′
 use Rattle.board_records.specs.Records.{recordsOver}
 use Rattle.board_records.proofs.Values.{held, head-is}
-use Rattle.board_records.proofs.inner.run_at as run-at
-use Rattle.board_records.proofs.inner.run_at.Symbol as run-at-def
-use Rattle.board_records.proofs.inner.run_at.Symbol.{name as #run-at}
-use Rattle.board_records.proofs.inner.run_at.Met as run-at-thm
+use Rattle.board.proofs.inner.run_at as run-at
+use Rattle.board.proofs.inner.run_at.Symbol as run-at-def
+use Rattle.board.proofs.inner.run_at.Symbol.{name as #run-at}
+use Rattle.board.proofs.inner.run_at.Met as run-at-thm
 use Rattle.board_records.proofs.inner.copy_runs.Key.{name as #copy-runs}
 use Rattle.board_records.proofs.inner.copy_runs as copy-runs
 use Rattle.board_records.proofs.inner.copy_runs.Statement as stated
@@ -88,14 +87,6 @@ again-is r v is = LL.owes T.the-type T′.the-laws r (LL.owed T.the-type T′.th
 array-long : (d : Board) → Is B.the-row d (held d ∷ []) → length (d .runs) ≡ 32
 array-long d is = let owed = LL.owed B.the-type B′.the-laws d _ is in search (needs, length-mapped)
 
-turned : (d s : List Run) (i : ℕ) → i < length d → i < length s → set (take i s ++ drop i d) i (getD s i no-run) ≡ take (i + 1) s ++ drop (i + 1) d
-turned d s i h k =
-    let p = paste-suc d 0 s i no-run (subst (λ (m : ℕ). m < length d) (sym (zero-add i)) h) k in
-    rw add-one (simp zero-add at p)
-
-same-len : (d s : List Run) (i : ℕ) → i ≤ length d → i ≤ length s → length (take i s ++ drop i d) ≡ length d
-same-len d s i h k = simp (length-append, length-take, length-drop) (omega arith)
-
 abbrev stayed : Stays (copy-runs.ended .signature .params) (copy-runs.ended .kept)
 stayed = (stay-none (λ _. B.the-row) yes, (stay-none (λ _. usize) yes, (stay-slice (0 ∷ []) tt (plain (λ _. R)), tt)))
 
@@ -103,8 +94,8 @@ module _ {M : Type 1} (𝓤 : URA M) (H : Heap 𝓤) (A : Atoms 𝓤) (at-mem : 
   abbrev RunAt : Contract 𝓤
   RunAt = tripleOf 𝓤 H A run-at.signature (run-at.spec 𝓤 H A at-mem run)
 
-  got-of : (d : Board) (i : ℕ) (r : Run) → ent 𝓤 (ensured 𝓤 H A run-at.ended (run-at.clauses 𝓤 H A at-mem run) tt (d, (i, tt)) tt r) (fact 𝓤 (r ≡ getD (d .runs) i no-run))
-  got-of d i r = exE 𝓤 _ (λ ws. snd∗ 𝓤 (sem 𝓤 H A (lasts run-at.ended tt (d, (i, tt)) ws)) (fact 𝓤 (r ≡ getD (d .runs) i no-run)))
+  got-of : (d : Board) (i : ℕ) (r : Run) → ent 𝓤 (ensured 𝓤 H A run-at.ended (run-at.clauses 𝓤 H A at-mem run) tt (d, (i, tt)) tt r) (fact 𝓤 (r ≡ getD (d .runs) i noRun))
+  got-of d i r = exE 𝓤 _ (λ ws. snd∗ 𝓤 (sem 𝓤 H A (lasts run-at.ended tt (d, (i, tt)) ws)) (fact 𝓤 (r ≡ getD (d .runs) i noRun)))
 
 module _ {M : Type 1} (𝓤 : URA M) (H : Heap 𝓤) (A : Atoms 𝓤) (W : Given 𝓤 H A) (at-mem : Memory → SProp 𝓤) (run : Routine → Fun 𝓤) (κ : Lft) (q : Share) (b o : ℕ) (γ : GName)
     (ys : List Run) (rm : Room R (length ys)) (d : Board) (d-is : Is B.the-row d (held d ∷ [])) (n : ℕ) (n-fits : n < 2 ^ 64) (pre : (n ≤ boardRuns) × (n ≤ length ys)) where
@@ -125,10 +116,14 @@ module _ {M : Type 1} (𝓤 : URA M) (H : Heap 𝓤) (A : Atoms 𝓤) (W : Given
 
   -- the list once i runs are copied
   abbrev L : ℕ → List Run
-  L i = take i (d .runs) ++ drop i ys
+  L i = pasted (d .runs) ys i
 
   L-len : (i : ℕ) → i ≤ n → length (L i) ≡ length ys
-  L-len i h = same-len ys (d .runs) i (omega arith) (omega (arith, array-long d d-is))
+  L-len i h = paste-length (d .runs) ys i (omega (arith, array-long d d-is)) (omega arith)
+
+  -- one more
+  L-turn : (i : ℕ) → i < n → set (L i) i (getD (d .runs) i noRun) ≡ L (i + 1)
+  L-turn i h = paste-turn (d .runs) ys _ i (getD (d .runs) i noRun) (omega arith) (drop-cons (d .runs) i noRun (omega (arith, array-long d d-is)))
 
   -- and once all are
   L-done : L n ≡ recordsOver ys (take n (d .runs))
@@ -194,18 +189,18 @@ module _ {M : Type 1} (𝓤 : URA M) (H : Heap 𝓤) (A : Atoms 𝓤) (W : Given
           nothing ! $ use1 W (raw (RunAt 𝓤 H A at-mem run .pre (to-run i))) (goes-run i (omega arith) (omega arith)) $
           calls-at ! fm (RunAt 𝓤 H A at-mem run) known (to-run i) (and-then ! (load ! (from ! (stop !)) (look ! 8 refl)) (and-then ! (load ! (from ! (stop !)) (look ! 2 refl)) (no-more !))) (λ v.
           use1 W (later (some (λ (r : Run). (‵ ftrue ⊛ ‵ (R .own r (v ∷ []))) ⊛ raw (ensured 𝓤 H A run-at.ended (run-at.clauses 𝓤 H A at-mem run) tt (d, (i, tt)) tt r)))) (id⊢ 𝓤 _) $ await ! tt $ pick ! (λ r.
-          split ! $ move ! (1 ∷ []) $ use1 W (raw (fact 𝓤 (r ≡ getD (d .runs) i no-run))) (got-of 𝓤 H A at-mem run d i r) $ heard ! (r ≡ getD (d .runs) i no-run) (λ e. split ! $ drops ! $
+          split ! $ move ! (1 ∷ []) $ use1 W (raw (fact 𝓤 (r ≡ getD (d .runs) i noRun))) (got-of 𝓤 H A at-mem run d i r) $ heard ! (r ≡ getD (d .runs) i noRun) (λ e. split ! $ drops ! $
           peeks ! R (Is R) (shows 𝓤 H A R) r (v ∷ []) (λ is.
           land ! (from ! (stop !)) (init ! 3 refl (LL.lawful T.the-type T′.the-laws 𝓤 H A W .typed r _ is .0)) $
           rewrite ! 3 (λ (u : Val). ‵ (fat fullShare (T′.mir) l₅ 0 u)) (head-is (LL.tells T.the-type T′.the-laws r (v ∷ []) is)) refl $ drops ! $
           assigns ! (bin ! (load ! (from ! (stop !)) (look ! 1 refl)) (lit ! tt) (record { fits = omega arith })) (from ! (stop !)) (init ! 4 refl (tt, record { fits = omega arith })) $
           assigns ! (bin ! (load ! (from ! (fld ! refl (stop !))) (look-in ! 6 (sub ! 0 refl (whole !)))) (load ! (from ! (stop !)) (look ! 4 refl)) tt) (from ! (stop !)) (init ! 5 refl (tt, tt)) $
           rewrite ! 5 (λ (p : ℕ). ‵ (fat fullShare tyPtr l₈ 0 (vptr b p))) (sym (place-is 16 o i)) refl $
-          elem-out ! R (Is R) (shows 𝓤 H A R) (LL.vals T.the-type T′.the-laws) (LL.tells T.the-type T′.the-laws) fullShare (L i) i no-run b o (omega (arith, L-len i (omega arith))) (λ _.
+          elem-out ! R (Is R) (shows 𝓤 H A R) (LL.vals T.the-type T′.the-laws) (LL.tells T.the-type T′.the-laws) fullShare (L i) i noRun b o (omega (arith, L-len i (omega arith))) (λ _.
           -- [records[i]; what it owns; the others; _4; _5; _6; _7; _8; _3; …]
           assigns ! (of-opd ! (load ! (from ! (stop !)) (look ! 4 refl))) (from ! (hop ! (look ! 7 refl) (stop !))) (store-raw ! 0 refl (LL.lawful T.the-type T′.the-laws 𝓤 H A W .typed r _ (again-is r v is) .0)) $
           move ! (1 ∷ []) $ drops ! $ owned ! R (Is R) (LL.makes T.the-type T′.the-plain 𝓤 H A) r _ (again-is r v is) $ move ! (1 ∷ 0 ∷ []) $ elem-put ! R fullShare (L i) i r (mach r ∷ []) b o (omega (arith, L-len i (omega arith))) $
-          rewrite ! 0 (λ (l : List Run). ‵ (row R fullShare l b o)) (ap (λ (z : Run). set (L i) i z) e ∙ turned ys (d .runs) i (omega arith) (omega (arith, array-long d d-is))) refl $
+          rewrite ! 0 (λ (l : List Run). ‵ (row R fullShare l b o)) (ap (λ (z : Run). set (L i) i z) e ∙ L-turn i small) refl $
           assigns-last ! (bin ! (load ! (from ! (stop !)) (look ! 1 refl)) (lit ! tt) (record { fits = omega arith })) (from ! (stop !)) (store ! 1 refl (tt, record { fits = omega arith })) $
           forget ! 2 refl $ forget ! 3 refl $ forget ! 4 refl $ forget ! 5 refl $ by ! k)))))
 
@@ -279,4 +274,4 @@ copy-runs-spec 𝓤 H 𝓜 𝓖 𝓡 =
     entered 𝓤 H (tripleOf 𝓤 H (𝓖 .A) copy-runs.signature (copy-runs.spec 𝓤 H (𝓖 .A) (𝓜 .mem) (𝓡 .run)))
     (tables 𝓤 H 𝓜 𝓡 code.env .C) (tables 𝓤 H 𝓜 𝓡 code.env .Λ) #copy-runs code.function (code.unfolded 𝓤 H 𝓜 𝓡)
     (meets 𝓤 H (𝓖 .A) (givenOf 𝓤 H 𝓜 𝓖) (𝓜 .mem) (𝓡 .run) (tablesOf 𝓤 H 𝓜 (tables 𝓤 H 𝓜 𝓡 code.env))
-    (cited 𝓤 H (RunAt 𝓤 H (𝓖 .A) (𝓜 .mem) (𝓡 .run)) 𝓜 𝓡 code.env #run-at run-at-def.routine code.calls-board-records·inner·run-at (run-at-thm.met 𝓤 H 𝓜 𝓖 𝓡)))
+    (cited 𝓤 H (RunAt 𝓤 H (𝓖 .A) (𝓜 .mem) (𝓡 .run)) 𝓜 𝓡 code.env #run-at run-at-def.routine code.calls-board·inner·run-at (run-at-thm.met 𝓤 H 𝓜 𝓖 𝓡)))

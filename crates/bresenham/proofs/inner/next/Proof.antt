@@ -1,54 +1,34 @@
+use mathlib.Core.Path.{ap}
+use Prim.Native.Nat.{_+_}
+use borrow.Author.Needs.{needs}
 use lib.Dec.{lit≤}
-use Rattle.whole.proofs.Machine.{hold, fits-add, fits-sub, hold-add, hold-sub, lt-hold}
-use Rattle.shapes.proofs.Laws.{near-more, near-plus}
-use Rattle.bresenham.specs.Walk.{nextOf, handed, turned}
+use mir.Syntax.{w64}
+use mir.Val.{ofZ}
+use Rattle.whole.proofs.Machine.{Hold, hold, hold-as, fits-add, hold-add}
+use Rattle.shapes.proofs.Laws.{near-more}
+use Rattle.bresenham.specs.declared.Bresenham.{Bresenham}
+use Rattle.bresenham.specs.Walk.{stepLimit, turned, nextOf, handed}
+use Rattle.bresenham.proofs.Laws.{turned-placed}
 use Rattle.bresenham.proofs.inner.next.Statement.{statement}
 use Rattle.bresenham.proofs.inner.next.Tie as tie
 
 plus-requires : tie.Need-plus-requires
-plus-requires c κs = let q = c .before .before .before .before .before .pre in (near-more (q .1 .point-near) (lit≤ tt), near-more (q .0 .minor-near) (lit≤ tt))
+plus-requires c κs =
+    let q = c .before .before .pre in
+    rw (c .before .turn .ensures) (near-more (turned-placed (q .0) (q .1) .0) (lit≤ tt), near-more (q .0 .major-near) (lit≤ tt))
 
-plus-requires-2 : tie.Need-plus-requires-2
-plus-requires-2 c κs =
-    let q = c .before .before .before .before .before .before .pre in
-    (rw (c .plus .ensures) (near-more (near-plus (q .1 .point-near) (q .0 .minor-near)) (lit≤ tt)), near-more (q .0 .major-near) (lit≤ tt))
+-- the error after a minor move, in its bits
+error : (c : tie.After-turn) → Hold (ofZ w64 (c .turn .result .error)) (turned (c .before .args .p) (c .before .args .at) .error) (stepLimit + stepLimit)
+error c = let q = c .before .pre in hold-as (ap (λ (b : Bresenham). b .error) (c .turn .ensures)) (turned-placed (q .0) (q .1) .1) tt
 
-sub-t13 : tie.Need-sub-t13
-sub-t13 c = let q = c .before .before .before .before .before .before .before .pre in fits-sub (hold (q .1 .error-small) tt) (hold (q .0 .loss-small) tt) tt
-
-add-t14 : tie.Need-add-t14
-add-t14 c =
-    let q = c .before .before .before .before .before .before .before .pre in
-    fits-add (hold-sub (hold (q .1 .error-small) tt) (hold (q .0 .loss-small) tt) tt) (hold (q .0 .gain-small) tt) tt
+add-t7 : tie.Need-add-t7
+add-t7 c = let t = c .before .before .before .before .before .before in fits-add (error t) (hold (t .before .pre .0 .gain-small) tt) tt
 
 returns : tie.Need-returns
-unfolding nextOf handed turned
+unfolding nextOf handed
 returns c =
-    let q = c .before .before .before .before .before .before .before .pre in
-    let error = hold (q .1 .error-small) tt in
-    simp (
-      lt-hold (hold (q .0 .threshold-small) tt) error (c .before .before .if1 .taken),
-      c .plus2 .ensures,
-      c .before .plus .ensures,
-      hold-add (hold-sub error (hold (q .0 .loss-small) tt) tt) (hold (q .0 .gain-small) tt) tt .is,
-    )
-
-plus-requires-3 : tie.Need-plus-requires-3
-plus-requires-3 c κs = let q = c .before .before .before .before .before .before .pre in (near-more (q .1 .point-near) (lit≤ tt), near-more (q .0 .major-near) (lit≤ tt))
-
-add-t16 : tie.Need-add-t16
-add-t16 c = let q = c .before .before .before .before .before .before .before .pre in fits-add (hold (q .1 .error-small) tt) (hold (q .0 .gain-small) tt) tt
-
-returns-2 : tie.Need-returns-2
-unfolding nextOf handed turned
-returns-2 c =
-    let q = c .before .before .before .before .before .before .before .pre in
-    let error = hold (q .1 .error-small) tt in
-    simp (
-      lt-hold (hold (q .0 .threshold-small) tt) error (c .before .before .if1 .left),
-      c .plus3 .ensures,
-      hold-add error (hold (q .0 .gain-small) tt) tt .is,
-    )
+    let t = c .before .before .before .before .before .before in
+    rw (hold-add (error t) (hold (t .before .pre .0 .gain-small) tt) tt .is, c .before .before .before .before .plus .ensures, t .turn .ensures)
 
 pub next-spec : {M : Type 1} → statement M
-next-spec = tie.close (tie.spec plus-requires plus-requires-2 sub-t13 add-t14 returns plus-requires-3 add-t16 returns-2)
+next-spec = tie.close (tie.spec (λ c κs. search needs) plus-requires add-t7 returns)

@@ -1,35 +1,32 @@
-use lib.Dec.{lit≤}
-use Rattle.whole.proofs.Machine.{hold, fits-add, fits-sub, hold-add, hold-sub, lt-hold}
-use Rattle.shapes.proofs.Laws.{near-more}
+use mathlib.Core.Path.{_∙_}
+use borrow.Author.Needs.{needs}
+use Rattle.whole.proofs.Machine.{hold, fits-add, fits-sub, hold-add, hold-sub}
 use Rattle.bresenham.specs.Walk.{nextAll}
 use Rattle.bresenham.proofs.inner.next_all.Statement.{statement}
 use Rattle.bresenham.proofs.inner.next_all.Tie as tie
 
-plus-requires : tie.Need-plus-requires
-plus-requires c κs = let q = c .before .before .before .before .before .before .pre in (near-more (q .1 .point-near) (lit≤ tt), near-more (q .0 .minor-near) (lit≤ tt))
+sub-t8 : tie.Need-sub-t8
+sub-t8 c = let q = c .before .before .before .before .before .pre in fits-sub (hold (q .1 .error-small) tt) (hold (q .0 .loss-small) tt) tt
 
-sub-t12 : tie.Need-sub-t12
-sub-t12 c = let q = c .before .before .before .before .before .before .before .pre in fits-sub (hold (q .1 .error-small) tt) (hold (q .0 .loss-small) tt) tt
+add-t8 : tie.Need-add-t8
+add-t8 c = let q = c .before .before .before .before .before .before .before .before .pre in fits-add (hold (q .1 .error-small) tt) (hold (q .0 .gain-small) tt) tt
 
 returns : tie.Need-returns
 unfolding nextAll
 returns c =
-    let q = c .before .before .before .before .before .before .before .pre in
+    let q = c .before .before .before .before .before .before .before .before .before .before .before .pre in
     let error = hold (q .1 .error-small) tt in
-    simp (lt-hold (hold (q .0 .threshold-small) tt) error (c .before .if1 .taken), c .plus .ensures, hold-sub error (hold (q .0 .loss-small) tt) tt .is)
-
-plus-requires-2 : tie.Need-plus-requires-2
-plus-requires-2 c κs = let q = c .before .before .before .before .before .before .pre in (near-more (q .1 .point-near) (lit≤ tt), near-more (q .0 .major-near) (lit≤ tt))
-
-add-t14 : tie.Need-add-t14
-add-t14 c = let q = c .before .before .before .before .before .before .before .pre in fits-add (hold (q .1 .error-small) tt) (hold (q .0 .gain-small) tt) tt
-
-returns-2 : tie.Need-returns-2
-unfolding nextAll
-returns-2 c =
-    let q = c .before .before .before .before .before .before .before .pre in
-    let error = hold (q .1 .error-small) tt in
-    simp (lt-hold (hold (q .0 .threshold-small) tt) error (c .before .if1 .left), c .plus2 .ensures, hold-add error (hold (q .0 .gain-small) tt) tt .is)
+    c .met .ensures
+    ∙ rw (
+      hold-sub error (hold (q .0 .loss-small) tt) tt .is,
+      hold-add error (hold (q .0 .gain-small) tt) tt .is,
+      error .is,
+      hold (q .0 .threshold-small) tt .is,
+      c .before .before .before .before .before .before .before .before .plus .ensures,
+      c .before .before .before .before .before .plus2 .ensures,
+    )
 
 pub next-all-spec : {M : Type 1} → statement M
-next-all-spec = tie.close (tie.spec plus-requires sub-t12 returns plus-requires-2 add-t14 returns-2)
+next-all-spec =
+    tie.close
+    (tie.spec (λ c κs. search needs) sub-t8 (λ c κs. search needs) add-t8 (λ c κs. search needs) returns)

@@ -26,18 +26,6 @@ told c = let s = c .before .before .before in sym (c .within .ensures ∙ ap (is
 loop-holds : tie.Need-loop-holds Inv-loop μ-loop
 loop-holds c = (search needs, refl)
 
-mul-within : tie.Need-mul-within Inv-loop μ-loop
-mul-within c = search needs
-
-shared-slice-copy-out-within : tie.Need-shared-slice-copy-out-within Inv-loop μ-loop
-shared-slice-copy-out-within c = search needs
-
-within-requires : tie.Need-within-requires Inv-loop μ-loop
-within-requires c κs = search needs
-
-add-i : tie.Need-add-i Inv-loop μ-loop
-add-i c = search needs
-
 loop-less : tie.Need-loop-less Inv-loop μ-loop
 loop-less c = omega arith
 
@@ -64,10 +52,10 @@ are-within-spec =
     Inv-loop
     μ-loop
     loop-holds
-    mul-within
-    shared-slice-copy-out-within
-    within-requires
-    add-i
+    (λ c. search needs)
+    (λ c. search needs)
+    (λ c κs. search needs)
+    (λ c. search needs)
     loop-less
     loop-again
     returns

@@ -1,13 +1,18 @@
-use mathlib.Core.Path.{_≡_, _∙_, ap}
+use mathlib.Core.Path.{_≡_}
+use borrow.Author.Needs.{needs}
 use lib.Dec.{lit≤}
 use Rattle.whole.proofs.Machine.{hold}
-use Rattle.shapes.specs.Limits.{lineLimit, widthLimit}
-use Rattle.parallels.specs.Parallels.{planOf, startOf, parallels, parallelsOf, Sound}
+use Rattle.shapes.specs.Limits.{lineLimit}
+use Rattle.shapes.specs.declared.Point.{Point}
+use Rattle.shapes.specs.Shape.{Near, LineNear}
+use Rattle.shapes.proofs.Laws.{near-more}
+use Rattle.bresenham.specs.Walk.{stepLimit, Sized}
+use Rattle.parallels.specs.Parallels.{thickLimit, planOf, parallelsOf, Sound}
+use Rattle.parallels.proofs.Steps.{Away}
+use Rattle.parallels.proofs.Laws.{shift}
 use Rattle.parallels.proofs.Plans.{sound-plan}
 use Rattle.parallels.proofs.Room.{sized, near-away, begun-start}
-use Rattle.parallels.proofs.Laws.{shift}
-use Rattle.shapes.proofs.Laws.{near-more}
-use Rattle.extents.specs.Edges.{freshEnds, lasts, closed, extentsOf}
+use Rattle.extents.specs.Edges.{freshEnds, lasts, extentsOf}
 use Rattle.extents.proofs.Laws.{EndsAway, ends-away}
 use Rattle.extents.proofs.inner.extents.Statement.{statement}
 use Rattle.extents.proofs.inner.extents.Tie as tie
@@ -16,60 +21,54 @@ plan-of-requires : tie.Need-plan-of-requires
 plan-of-requires c κs = let w = hold (c .pre .1) tt in (c .pre .0, rw (w .is) (w .small))
 
 -- the plan, and the ends that its parallels lead to
-planned : (c : tie.After-plan-of) → c .plan-of .result ≡ planOf (c .before .args .line) (c .before .args .width) (c .before .args .offset)
-planned c =
-    let a = c .before .args in
-    c .plan-of .ensures ∙ ap (λ w. planOf (a .line) w (a .offset)) (hold (c .before .pre .1) tt .is)
+planned : (c : tie.After-plan-of) → let a = c .before .args in c .plan-of .result ≡ planOf (a .line) (a .width) (a .offset)
+planned c = rw (hold (c .before .pre .1) tt .is) at (c .plan-of .ensures)
 
-sound : (c : tie.After-plan-of) → Sound widthLimit (c .plan-of .result)
+sound : (c : tie.After-plan-of) → Sound thickLimit (c .plan-of .result)
 sound c =
     let a = c .before .args in
     rw (planned c) (sound-plan (a .line) (a .width) (a .offset) (c .before .pre .0) (c .before .pre .1 .bound))
 
-lasted : (c : tie.After-last-ends) → c .last-ends .result ≡ lasts (freshEnds (c .before .before .before .before .args .line)) (parallelsOf (c .before .before .before .before .args .line) (c .before .before .before .before .args .width) (c .before .before .before .before .args .offset))
-unfolding parallelsOf
-lasted c =
-    let l = c .before .before .before .before .args .line in
-    let plan = c .before .before .before .plan-of .result in
-    c .last-ends .ensures
-    ∙ (ap (λ s. lasts (freshEnds l) (parallels plan s)) (c .before .start .ensures)
-    ∙ ap (λ p. lasts (freshEnds l) (parallels p (startOf p (l .start)))) (planned (c .before .before .before)))
-
-away : (c : tie.After-last-ends) → EndsAway (c .before .before .before .before .args .line .start) (shift widthLimit) (c .last-ends .result)
-away c =
-    let a = c .before .before .before .before .args in
-    let q = c .before .before .before .before .pre in
-    rw (lasted c) (ends-away lineLimit widthLimit (a .line) (a .width) (a .offset) (q .0) (lit≤ tt) (q .1 .bound))
-
 start-requires : tie.Need-start-requires
-start-requires c κs = (sound (c .before), c .before .before .pre .0 .start-near)
+start-requires c κs = (sound c, c .before .pre .0 .start-near)
 
 last-ends-requires : tie.Need-last-ends-requires
 last-ends-requires c κs =
-    let h = sound (c .before .before) in
-    (h, rw (c .start .ensures) (begun-start h (c .before .before .before .pre .0 .start-near)))
+    let p = c .before .before in
+    (sound p, rw (c .before .start .ensures) (begun-start (sound p) (p .before .pre .0 .start-near)))
+
+lasted : (c : tie.After-last-ends) → let a = c .before .before .before .before .args in c .last-ends .result ≡ lasts (freshEnds (a .line)) (parallelsOf (a .line) (a .width) (a .offset))
+unfolding parallelsOf
+lasted c = rw (c .last-ends .ensures, c .before .fresh-ends .ensures, c .before .before .start .ensures, planned (c .before .before .before))
+
+away : (c : tie.After-last-ends) → EndsAway (c .before .before .before .before .args .line .start) (shift thickLimit) (c .last-ends .result)
+away c =
+    let s = c .before .before .before .before in
+    rw (lasted c) (ends-away lineLimit thickLimit (s .args .line) (s .args .width) (s .args .offset) (s .pre .0) (lit≤ tt) (s .pre .1 .bound))
+
+-- what an edge is closed with
+closing : (c : tie.After-last-ends) {q : Point} →
+    let p = c .before .before .before in
+    let l = p .before .args .line in
+    Away (l .start) (shift thickLimit) q → LineNear lineLimit l × (Sized (p .plan-of .result .parallel) × Near stepLimit q)
+closing c a =
+    let p = c .before .before .before in
+    let q = p .before .pre .0 in
+    (q, (sized (sound p .along-fair), near-more (near-away (q .start-near) a) (lit≤ tt)))
 
 close-requires : tie.Need-close-requires
-close-requires c κs =
-    let q = c .before .before .before .before .pre .0 in
-    (q, (sized (sound (c .before .before .before) .along-fair), near-more (near-away (q .start-near) (away c .left-away)) (lit≤ tt)))
+close-requires c κs = closing c (away c .left-away)
 
 close-requires-2 : tie.Need-close-requires-2
-close-requires-2 c κs =
-    let q = c .before .before .before .before .before .pre .0 in
-    (q, (sized (sound (c .before .before .before .before) .along-fair), near-more (near-away (q .start-near) (away (c .before) .right-away)) (lit≤ tt)))
+close-requires-2 c κs = closing (c .before) (away (c .before) .right-away)
 
 returns : tie.Need-returns
 unfolding extentsOf
 returns c =
-    let l = c .before .before .before .before .before .before .args .line in
-    let along = c .before .before .before .before .before .plan-of .result .parallel in
-    let ends = c .before .before .last-ends .result in
-    let left : c .before .close .result ≡ closed l along (ends .left) = c .before .close .ensures in
-    let right : c .close2 .result ≡ closed l along (ends .right) = c .close2 .ensures in
-    rw (left, right, lasted (c .before .before), planned (c .before .before .before .before .before))
+    let last = c .before .before in
+    rw (c .before .close .ensures, c .close2 .ensures, lasted last, planned (last .before .before .before))
 
 pub extents-spec : {M : Type 1} → statement M
 extents-spec =
     tie.close
-    (tie.spec plan-of-requires start-requires last-ends-requires close-requires close-requires-2 returns)
+    (tie.spec plan-of-requires start-requires (λ c κs. search needs) last-ends-requires close-requires close-requires-2 returns)

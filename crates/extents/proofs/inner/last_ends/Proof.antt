@@ -2,8 +2,7 @@
 -- were asked for. Assumes nothing.
 use mathlib.Core.Path.{_≡_, refl, sym, _∙_}
 use mathlib.Core.Bool.{false}
-use Rattle.shapes.specs.Limits.{widthLimit}
-use Rattle.parallels.specs.Parallels.{Begun, isDone, spare, parallels}
+use Rattle.parallels.specs.Parallels.{thickLimit, Begun, isDone, spare, parallels}
 use Rattle.parallels.proofs.Room.{begun-next, begun-less}
 use Rattle.extents.specs.Edges.{lasts}
 use Rattle.extents.proofs.Laws.{lasts-end, lasts-turn}
@@ -11,7 +10,7 @@ use Rattle.extents.proofs.inner.last_ends.Statement.{statement}
 use Rattle.extents.proofs.inner.last_ends.Tie as tie
 
 abbrev Inv-loop : tie.InvT-loop
-Inv-loop plan at₀ last₀ at last = Begun widthLimit plan at × (lasts last (parallels plan at) ≡ lasts last₀ (parallels plan at₀))
+Inv-loop plan at₀ last₀ at last = Begun thickLimit plan at × (lasts last (parallels plan at) ≡ lasts last₀ (parallels plan at₀))
 
 abbrev μ-loop : tie.MeasureT-loop
 μ-loop plan at₀ last₀ at last = spare plan at
@@ -25,22 +24,24 @@ is-done-requires c κs = (c .before .pre .0, c .loop .inv .0)
 next-requires : tie.Need-next-requires Inv-loop μ-loop
 next-requires c κs = (c .before .before .before .pre .0, c .before .before .loop .inv .0)
 
-see-requires : tie.Need-see-requires Inv-loop μ-loop
-see-requires c κs = tt
-
 -- where the loop goes on, a parallel follows
-follows : (c : tie.Else1 Inv-loop μ-loop) → isDone (c .before .before .before .args .plan) (c .before .before .loop .at) ≡ false
+follows : (c : tie.Else1 Inv-loop μ-loop) → let l = c .before .before in isDone (l .before .args .plan) (l .loop .at) ≡ false
 follows c = sym (c .before .is-done .ensures) ∙ c .if1 .left
 
 loop-less : tie.Need-loop-less Inv-loop μ-loop
-loop-less c = rw (c .before .before .next .ensures) (begun-less (c .before .before .before .before .before .before .pre .0) (c .before .before .before .before .before .loop .inv .0) (follows (c .before .before .before)))
+loop-less c =
+    let y = c .before .before in
+    let l = y .before .before .before in
+    rw (y .next .ensures) (begun-less (l .before .pre .0) (l .loop .inv .0) (follows (y .before)))
 
 loop-again : tie.Need-loop-again Inv-loop μ-loop
 loop-again c =
-    let sound = c .before .before .before .before .before .before .pre .0 in
-    let l = c .before .before .before .before .before .loop in
-    let on = follows (c .before .before .before) in
-    rw (c .before .see .ensures, c .before .before .next .ensures) (begun-next sound (l .inv .0) on, sym (lasts-turn (l .last) sound (l .inv .0) on) ∙ l .inv .1)
+    let y = c .before .before in
+    let l = y .before .before .before in
+    let sound = l .before .pre .0 in
+    let i = l .loop .inv in
+    let on = follows (y .before) in
+    rw (c .before .see .ensures, y .next .ensures) (begun-next sound (i .0) on, sym (lasts-turn (l .loop .last) sound (i .0) on) ∙ i .1)
 
 returns : tie.Need-returns Inv-loop μ-loop
 returns c =
@@ -50,4 +51,4 @@ returns c =
 pub last-ends-spec : {M : Type 1} → statement M
 last-ends-spec =
     tie.close
-    (tie.spec Inv-loop μ-loop loop-holds is-done-requires next-requires see-requires loop-less loop-again returns)
+    (tie.spec Inv-loop μ-loop loop-holds is-done-requires next-requires (λ c κs. tt) loop-less loop-again returns)

@@ -3,12 +3,6 @@ use Rattle.extents.specs.Edges.{seen}
 use Rattle.extents.proofs.inner.see.Statement.{statement}
 use Rattle.extents.proofs.inner.see.Tie as tie
 
-enum-told : tie.Need-enum-told
-enum-told c = search needs
-
-enum-told-2 : tie.Need-enum-told-2
-enum-told-2 c = search needs
-
 returns : tie.Need-returns
 unfolding seen
 returns c = rw (c .enum-told .given .1)
@@ -18,4 +12,4 @@ unfolding seen
 returns-2 c = rw (c .enum-told2 .given .1)
 
 pub see-spec : {M : Type 1} → statement M
-see-spec = tie.close (tie.spec enum-told enum-told-2 returns returns-2)
+see-spec = tie.close (tie.spec (λ c. search needs) (λ c. search needs) returns returns-2)

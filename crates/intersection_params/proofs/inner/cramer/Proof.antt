@@ -19,9 +19,6 @@ start c = c .before .before .before .before .before .before .before .before .bef
 both : {p q p' q' : Point} → p ≡ p' → q ≡ q' → determinant p q ≡ determinant p' q'
 both e f = cc
 
-determinant-requires : tie.Need-determinant-requires
-determinant-requires c κs = search needs
-
 determinant-requires-2 : tie.Need-determinant-requires-2
 determinant-requires-2 c κs =
     let t = start c .pre in (
@@ -50,4 +47,4 @@ returns c =
     )
 
 pub cramer-spec : {M : Type 1} → statement M
-cramer-spec = tie.close (tie.spec determinant-requires determinant-requires-2 determinant-requires-3 returns)
+cramer-spec = tie.close (tie.spec (λ c κs. search needs) determinant-requires-2 determinant-requires-3 returns)

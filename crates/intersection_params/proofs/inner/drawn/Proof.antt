@@ -7,7 +7,8 @@ use mir.Facts.{toZ-ofZ}
 use mir.Syntax.{w64}
 use Rattle.whole.specs.Rounded.{rounded}
 use Rattle.whole.proofs.Bounds.{within-more}
-use Rattle.whole.proofs.Machine.{hold, literal, eqZ-no, eq-hold, ne-back}
+use Rattle.whole.proofs.Machine.{hold, literal, eq-hold, ne-back}
+use Rattle.whole.proofs.Orders.{eqZ-no}
 use Rattle.intersection_params.specs.Crossing.{sideOf, drawnOf}
 use Rattle.intersection_params.proofs.inner.drawn.Statement.{statement}
 use Rattle.intersection_params.proofs.inner.drawn.Tie as tie
@@ -33,9 +34,6 @@ rounded-requires-2 c κs =
     let t = c .before .before .before .before .before .pre in
     rw (hold (t .y-within) tt .is, hold (t .determinant-within) tt .is) (within-more (t .y-within) (lit≤ tt), (within-more (t .determinant-within) (lit≤ tt), some (c .before .before .before)))
 
-outer-side-requires : tie.Need-outer-side-requires
-outer-side-requires c κs = search needs
-
 returns-2 : tie.Need-returns-2
 unfolding drawnOf
 returns-2 c =
@@ -52,4 +50,4 @@ returns-2 c =
     )
 
 pub drawn-spec : {M : Type 1} → statement M
-drawn-spec = tie.close (tie.spec returns rounded-requires rounded-requires-2 outer-side-requires returns-2)
+drawn-spec = tie.close (tie.spec returns rounded-requires rounded-requires-2 (λ c κs. search needs) returns-2)

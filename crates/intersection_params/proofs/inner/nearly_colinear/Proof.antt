@@ -29,15 +29,6 @@ dot : (c : tie.After-dot-product) → Hold (ofZ w64 (c .dot-product .result)) (d
 dot c =
     hold-as (c .dot-product .ensures ∙ cc (c .before .before .delta .ensures, c .before .delta2 .ensures)) (within-dot (near-delta (start c .pre .0)) (near-delta (start c .pre .1))) tt
 
-solve-requires : tie.Need-solve-requires
-solve-requires c κs = search needs
-
-delta-requires : tie.Need-delta-requires
-delta-requires c κs = search needs
-
-delta-requires-2 : tie.Need-delta-requires-2
-delta-requires-2 c κs = search needs
-
 dot-product-requires : tie.Need-dot-product-requires
 dot-product-requires c κs =
     let t = c .before .before .before .before .pre in
@@ -59,9 +50,9 @@ pub nearly-colinear-spec : {M : Type 1} → statement M
 nearly-colinear-spec =
     tie.close
     (tie.spec
-    solve-requires
-    delta-requires
-    delta-requires-2
+    (λ c κs. search needs)
+    (λ c κs. search needs)
+    (λ c κs. search needs)
     dot-product-requires
     mul-result
     magnitude-requires

@@ -5,12 +5,6 @@ use Rattle.intersection_params.specs.Crossing.{solutionOf}
 use Rattle.intersection_params.proofs.inner.solve.Statement.{statement}
 use Rattle.intersection_params.proofs.inner.solve.Tie as tie
 
-from-line-requires : tie.Need-from-line-requires
-from-line-requires c κs = search needs
-
-from-line-requires-2 : tie.Need-from-line-requires-2
-from-line-requires-2 c κs = search needs
-
 cramer-requires : tie.Need-cramer-requires
 cramer-requires c κs =
     let t = c .before .before .pre in
@@ -21,4 +15,4 @@ unfolding solutionOf
 returns c = c .cramer .ensures ∙ cc (c .before .before .from-line .ensures, c .before .from-line2 .ensures)
 
 pub solve-spec : {M : Type 1} → statement M
-solve-spec = tie.close (tie.spec from-line-requires from-line-requires-2 cramer-requires returns)
+solve-spec = tie.close (tie.spec (λ c κs. search needs) (λ c κs. search needs) cramer-requires returns)

@@ -5,7 +5,8 @@ use Rattle.intersection_params.specs.declared.Intersection.the-variants.{At}
 use Rattle.line_join.specs.declared.Join.{Join}
 use Rattle.line_join.specs.Join.{cornersOf, meet, bentLeft, bentRight, bentAt, bentOf}
 use Rattle.line_join.proofs.Others.{not-at}
-use Rattle.line_join.proofs.Room.{Inside, thin-held, thin-back, meet-room}
+use Rattle.line_join.proofs.Room.{Inside, meet-room}
+use Rattle.shapes.proofs.Widths.{thin-held, thin-back}
 use Rattle.line_join.proofs.bend.bent.Statement.{statement}
 use Rattle.line_join.proofs.bend.bent.Tie as tie
 
@@ -17,15 +18,6 @@ left c = sym (c .before .before .crossed .ensures) ∙ c .left .given .1
 right : (c : tie.After-right) → meet (c .before .before .before .before .before .before .before .args .second .right) (c .before .before .before .before .before .before .before .args .first .right) ≡ At (c .right .given .0 .0) (c .right .given .0 .1 .0)
 right c = sym (c .before .before .crossed2 .ensures) ∙ c .right .given .1
 
-crossed-requires : tie.Need-crossed-requires
-crossed-requires c κs = search needs
-
-enum-known-left : tie.Need-enum-known-left
-enum-known-left c = search needs
-
-at-edges-requires : tie.Need-at-edges-requires
-at-edges-requires c κs = search needs
-
 returns : tie.Need-returns
 unfolding bentOf
 returns c =
@@ -33,15 +25,6 @@ returns c =
     let found = c .before .before .crossed in
     let bend : Intersection → Join = λ x. bentLeft x (meet (a .second .right) (a .first .right)) (a .first) (a .second) (a .mid) (a .width) in
     c .at-edges .ensures ∙ sym (ap bend (sym (found .ensures)) ∙ not-at bend refl (λ n. refl) (found .result) (c .before .match .keys2))
-
-crossed-requires-2 : tie.Need-crossed-requires-2
-crossed-requires-2 c κs = search needs
-
-enum-known-right : tie.Need-enum-known-right
-enum-known-right c = search needs
-
-at-edges-requires-2 : tie.Need-at-edges-requires-2
-at-edges-requires-2 c κs = search needs
 
 returns-2 : tie.Need-returns-2
 unfolding bentOf
@@ -80,13 +63,13 @@ pub bent-spec : {M : Type 1} → statement M
 bent-spec =
     tie.close
     (tie.spec
-    crossed-requires
-    enum-known-left
-    at-edges-requires
+    (λ c κs. search needs)
+    (λ c. search needs)
+    (λ c κs. search needs)
     returns
-    crossed-requires-2
-    enum-known-right
-    at-edges-requires-2
+    (λ c κs. search needs)
+    (λ c. search needs)
+    (λ c κs. search needs)
     returns-2
     bent-at-requires
     returns-3)

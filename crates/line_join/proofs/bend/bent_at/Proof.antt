@@ -5,7 +5,8 @@ use borrow.Author.Needs.{needs}
 use Rattle.shapes.specs.declared.Point.{Point}
 use Rattle.line_join.specs.Miter.{reaches}
 use Rattle.line_join.specs.Join.{overlapping, outer, bentAt}
-use Rattle.line_join.proofs.Room.{thin-held, thin-back, outer-near}
+use Rattle.shapes.proofs.Widths.{thin-held, thin-back}
+use Rattle.line_join.proofs.Room.{outer-near}
 use Rattle.line_join.proofs.bend.bent_at.Statement.{statement}
 use Rattle.line_join.proofs.bend.bent_at.Tie as tie
 
@@ -20,18 +21,9 @@ apart c = sym (c .before .before .overlap .ensures) ∙ c .before .if1 .left
 short : (c : tie.After-is-short) → c .is-short .result ≡ reaches (c .before .before .before .before .args .mid) (outer (c .before .before .before .before .args .side) (c .before .before .before .before .args .crossing)) (c .before .before .before .before .args .width)
 short c = c .is-short .ensures ∙ both (c .before .before .before .before .args .mid) (c .before .outer-corner .ensures) (thin-held (c .before .before .before .before .pre .1 .1 .1 .1) .is)
 
-overlap-requires : tie.Need-overlap-requires
-overlap-requires c κs = search needs
-
-at-edges-requires : tie.Need-at-edges-requires
-at-edges-requires c κs = search needs
-
 returns : tie.Need-returns
 unfolding bentAt
 returns c = c .at-edges .ensures ∙ simp (sym (c .before .before .overlap .ensures) ∙ c .before .if1 .taken)
-
-outer-corner-requires : tie.Need-outer-corner-requires
-outer-corner-requires c κs = search needs
 
 is-short-requires : tie.Need-is-short-requires
 is-short-requires c κs =
@@ -39,17 +31,11 @@ is-short-requires c κs =
     let t = s .pre .1 .1 in
     (t .1 .0, (rw (c .outer-corner .ensures) (outer-near (s .args .side) (t .0)), thin-back (t .1 .1)))
 
-same-corners-requires : tie.Need-same-corners-requires
-same-corners-requires c κs = search needs
-
 returns-2 : tie.Need-returns-2
 unfolding bentAt
 returns-2 c =
     let e = c .before .before in
     c .same-corners .ensures ∙ simp (apart (e .before), sym (short e) ∙ c .before .if2 .taken)
-
-bevel-requires : tie.Need-bevel-requires
-bevel-requires c κs = search needs
 
 returns-3 : tie.Need-returns-3
 unfolding bentAt
@@ -61,12 +47,12 @@ pub bent-at-spec : {M : Type 1} → statement M
 bent-at-spec =
     tie.close
     (tie.spec
-    overlap-requires
-    at-edges-requires
+    (λ c κs. search needs)
+    (λ c κs. search needs)
     returns
-    outer-corner-requires
+    (λ c κs. search needs)
     is-short-requires
-    same-corners-requires
+    (λ c κs. search needs)
     returns-2
-    bevel-requires
+    (λ c κs. search needs)
     returns-3)

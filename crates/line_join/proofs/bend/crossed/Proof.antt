@@ -6,12 +6,6 @@ use Rattle.line_join.proofs.Others.{not-at}
 use Rattle.line_join.proofs.bend.crossed.Statement.{statement}
 use Rattle.line_join.proofs.bend.crossed.Tie as tie
 
-crossing-requires : tie.Need-crossing-requires
-crossing-requires c κs = search needs
-
-enum-known-point : tie.Need-enum-known-point
-enum-known-point c = search needs
-
 returns : tie.Need-returns
 unfolding meet
 returns c =
@@ -19,9 +13,6 @@ returns c =
     let found = c .before .crossing in
     let mend = mended (nearlyColinear (a .second) (a .first)) (a .first .end) in
     sym (ap mend (sym (found .ensures)) ∙ not-at mend refl (λ n. refl) (found .result) (c .match .keys2))
-
-nearly-colinear-requires : tie.Need-nearly-colinear-requires
-nearly-colinear-requires c κs = search needs
 
 returns-2 : tie.Need-returns-2
 unfolding meet
@@ -41,9 +32,9 @@ pub crossed-spec : {M : Type 1} → statement M
 crossed-spec =
     tie.close
     (tie.spec
-    crossing-requires
-    enum-known-point
+    (λ c κs. search needs)
+    (λ c. search needs)
     returns
-    nearly-colinear-requires
+    (λ c κs. search needs)
     returns-2
     returns-3)

@@ -4,12 +4,6 @@ use Rattle.line_join.specs.Join.{cutOff}
 use Rattle.line_join.proofs.bend.cut_off.Statement.{statement}
 use Rattle.line_join.proofs.bend.cut_off.Tie as tie
 
-enum-told : tie.Need-enum-told
-enum-told c = search needs
-
-enum-told-2 : tie.Need-enum-told-2
-enum-told-2 c = search needs
-
 returns : tie.Need-returns
 returns c =
     let told = c .before .before in
@@ -23,4 +17,4 @@ returns-2 c =
     ap (λ s. cutOff s (a .edge) (a .crossing)) (sym (told .enum-told2 .given .1))
 
 pub cut-off-spec : {M : Type 1} → statement M
-cut-off-spec = tie.close (tie.spec enum-told enum-told-2 returns returns-2)
+cut-off-spec = tie.close (tie.spec (λ c. search needs) (λ c. search needs) returns returns-2)

@@ -7,22 +7,10 @@ use Rattle.line_join.specs.Join.{overlapping}
 use Rattle.line_join.proofs.bend.overlap.Statement.{statement}
 use Rattle.line_join.proofs.bend.overlap.Tie as tie
 
-enum-told : tie.Need-enum-told
-enum-told c = search needs
-
-from-line-requires : tie.Need-from-line-requires
-from-line-requires c κs = search needs
-
 check-side-requires : tie.Need-check-side-requires
 check-side-requires c κs =
     let t = c .before .before .before .before .pre in
     (rw (c .from-line .ensures) (tame (t .0 .right-near)), t .1 .right-near .end-near)
-
-enum-told-2 : tie.Need-enum-told-2
-enum-told-2 c = search needs
-
-from-line-requires-2 : tie.Need-from-line-requires-2
-from-line-requires-2 c κs = search needs
 
 check-side-requires-2 : tie.Need-check-side-requires-2
 check-side-requires-2 c κs =
@@ -51,11 +39,11 @@ pub overlap-spec : {M : Type 1} → statement M
 overlap-spec =
     tie.close
     (tie.spec
-    enum-told
-    from-line-requires
+    (λ c. search needs)
+    (λ c κs. search needs)
     check-side-requires
-    enum-told-2
-    from-line-requires-2
+    (λ c. search needs)
+    (λ c κs. search needs)
     check-side-requires-2
     returns
     returns-2)

@@ -1,7 +1,7 @@
 use mathlib.Core.Path.{_≡_, sym, ap, subst, _∙_}
 use lib.Dec.{lit≤}
 use borrow.Author.Needs.{needs}
-use Rattle.shapes.specs.Limits.{cornerLimit}
+use Rattle.shapes.specs.Limits.{lineLimit}
 use Rattle.shapes.proofs.Laws.{line-near-more}
 use Rattle.line_join.specs.declared.Filler.the-variants.{Filled}
 use Rattle.line_join.specs.Caps.{cappedBy, fillerOf, capOf}
@@ -14,12 +14,6 @@ use Rattle.line_join.proofs.inner.cap.Tie as tie
 found : (c : tie.After-line) → fillerOf (c .before .before .before .before .before .args .join) ≡ Filled (c .line .given .0 .0)
 found c = sym (c .before .before .filler .ensures) ∙ c .line .given .1
 
-filler-requires : tie.Need-filler-requires
-filler-requires c κs = search needs
-
-enum-known-line : tie.Need-enum-known-line
-enum-known-line c = search needs
-
 returns : tie.Need-returns
 unfolding capOf
 returns c =
@@ -30,11 +24,11 @@ returns c =
 midpoint-requires : tie.Need-midpoint-requires
 midpoint-requires c κs =
     let l = c .before in
-    line-near-more (subst (FillerNear cornerLimit) (found l) (filler-near (l .before .before .before .before .before .pre))) (lit≤ tt)
+    line-near-more (subst (FillerNear lineLimit) (found l) (filler-near (l .before .before .before .before .before .pre))) (lit≤ tt)
 
 returns-2 : tie.Need-returns-2
 unfolding capOf
 returns-2 c = simp (found (c .before .before), c .midpoint .ensures)
 
 pub cap-spec : {M : Type 1} → statement M
-cap-spec = tie.close (tie.spec filler-requires enum-known-line returns midpoint-requires returns-2)
+cap-spec = tie.close (tie.spec (λ c κs. search needs) (λ c. search needs) returns midpoint-requires returns-2)

@@ -6,18 +6,6 @@ use Rattle.line_join.proofs.Others.{not-bevelled}
 use Rattle.line_join.proofs.inner.filler.Statement.{statement}
 use Rattle.line_join.proofs.inner.filler.Tie as tie
 
-enum-known-kind : tie.Need-enum-known-kind
-enum-known-kind c = search needs
-
-outer-line-requires : tie.Need-outer-line-requires
-outer-line-requires c κs = search needs
-
-enum-known-kind-2 : tie.Need-enum-known-kind-2
-enum-known-kind-2 c = search needs
-
-outer-line-requires-2 : tie.Need-outer-line-requires-2
-outer-line-requires-2 c κs = search needs
-
 returns : tie.Need-returns
 unfolding fillerOf
 returns c =
@@ -40,10 +28,10 @@ pub filler-spec : {M : Type 1} → statement M
 filler-spec =
     tie.close
     (tie.spec
-    enum-known-kind
-    outer-line-requires
-    enum-known-kind-2
-    outer-line-requires-2
+    (λ c. search needs)
+    (λ c κs. search needs)
+    (λ c. search needs)
+    (λ c κs. search needs)
     returns
     returns-2
     returns-3)

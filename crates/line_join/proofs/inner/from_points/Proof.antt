@@ -4,7 +4,8 @@ use Rattle.shapes.specs.Shape.{lineOf}
 use Rattle.shapes.proofs.Laws.{near-more}
 use Rattle.extents.specs.Edges.{extentsOf}
 use Rattle.line_join.specs.Join.{bentOf, joinOf}
-use Rattle.line_join.proofs.Room.{thin-held, thin-back, extents-room, edges-room}
+use Rattle.shapes.proofs.Widths.{thin-held, thin-back}
+use Rattle.line_join.proofs.Room.{extents-room, edges-room}
 use Rattle.line_join.proofs.inner.from_points.Statement.{statement}
 use Rattle.line_join.proofs.inner.from_points.Tie as tie
 

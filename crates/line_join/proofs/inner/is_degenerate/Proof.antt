@@ -4,14 +4,8 @@ use Rattle.line_join.proofs.Others.{not-degenerate}
 use Rattle.line_join.proofs.inner.is_degenerate.Statement.{statement}
 use Rattle.line_join.proofs.inner.is_degenerate.Tie as tie
 
-enum-told : tie.Need-enum-told
-enum-told c = search needs
-
-returns : tie.Need-returns
-returns c = search needs
-
 returns-2 : tie.Need-returns-2
 returns-2 c = sym (not-degenerate (c .before .args .join .kind) (c .match .keys2))
 
 pub is-degenerate-spec : {M : Type 1} → statement M
-is-degenerate-spec = tie.close (tie.spec enum-told returns returns-2)
+is-degenerate-spec = tie.close (tie.spec (λ c. search needs) (λ c. search needs) returns-2)

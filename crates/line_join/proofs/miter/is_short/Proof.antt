@@ -16,9 +16,10 @@ use Rattle.whole.proofs.Linear.{linear, times}
 use Rattle.whole.proofs.Machine.{Hold, hold-as, literal, fits-sub, fits-mul, fits-add, hold-sub, hold-mul, hold-add, lt-hold}
 use Rattle.shapes.specs.Shape.{minus, dotProduct, squaredLength}
 use Rattle.shapes.proofs.Laws.{x-held, y-held}
-use Rattle.line_join.specs.Miter.{Thin, miterLimit, reaches}
+use Rattle.shapes.specs.Strokes.{Thin}
+use Rattle.line_join.specs.Miter.{miterLimit, reaches}
 use Rattle.line_join.proofs.Laws.{too-wide, too-tall}
-use Rattle.line_join.proofs.Room.{thin-held}
+use Rattle.shapes.proofs.Widths.{thin-held}
 use Rattle.line_join.proofs.miter.is_short.Statement.{statement}
 use Rattle.line_join.proofs.miter.is_short.Tie as tie
 
@@ -104,9 +105,6 @@ mul-result-2 c = fits-mul (short-y c) (short-y c) tt
 add-result : tie.Need-add-result
 add-result c = fits-add (hold-mul (short-x c) (short-x c) tt) (hold-mul (short-y c) (short-y c) tt) tt
 
-limit-requires : tie.Need-limit-requires
-limit-requires c κs = search needs
-
 returns-3 : tie.Need-returns-3
 unfolding reaches squaredLength dotProduct minus
 returns-3 c =
@@ -129,5 +127,5 @@ is-short-spec =
     mul-result
     mul-result-2
     add-result
-    limit-requires
+    (λ c κs. search needs)
     returns-3)

@@ -13,8 +13,9 @@ use Rattle.whole.specs.Number.{Within}
 use Rattle.whole.proofs.Bounds.{within-mul}
 use Rattle.whole.proofs.Machine.{hold, fits}
 use Rattle.whole.proofs.Squares.{counted, getD-counted}
-use Rattle.line_join.specs.Miter.{Thin, miterLimit}
-use Rattle.line_join.proofs.Room.{thin-within, thin-held}
+use Rattle.shapes.specs.Strokes.{Thin}
+use Rattle.line_join.specs.Miter.{miterLimit}
+use Rattle.shapes.proofs.Widths.{thin-within, thin-held}
 use Rattle.line_join.proofs.miter.limit.Statement.{statement}
 use Rattle.line_join.proofs.miter.limit.Tie as tie
 

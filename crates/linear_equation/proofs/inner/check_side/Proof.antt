@@ -12,15 +12,6 @@ use Rattle.linear_equation.proofs.inner.check_side.Tie as tie
 far : (c : tie.After-distance) → toZ w64 (ofZ w64 (c .distance .result)) ≡ distanceOf (c .before .args .equation) (c .before .args .point)
 far c = toZ-ofZ {z = c .distance .result} (search needs) ∙ c .distance .ensures
 
-distance-requires : tie.Need-distance-requires
-distance-requires c κs = search needs
-
-enum-told : tie.Need-enum-told
-enum-told c = search needs
-
-enum-told-2 : tie.Need-enum-told-2
-enum-told-2 c = search needs
-
 returns : tie.Need-returns
 unfolding isOnSide
 returns c =
@@ -34,4 +25,4 @@ returns-2 c =
     ap (leZ (pos 0)) (far (c .before .before)) ∙ ap (isOnSide (a .equation) (a .point)) (sym (c .enum-told2 .given .1))
 
 pub check-side-spec : {M : Type 1} → statement M
-check-side-spec = tie.close (tie.spec distance-requires enum-told enum-told-2 returns returns-2)
+check-side-spec = tie.close (tie.spec (λ c κs. search needs) (λ c. search needs) (λ c. search needs) returns returns-2)

@@ -12,9 +12,6 @@ use Rattle.linear_equation.proofs.inner.distance.Tie as tie
 dot : (c : tie.After-dot-product) → Hold (ofZ w64 (c .dot-product .result)) (dotProduct (c .before .args .point) (c .before .args .equation .normal)) (2 ^ 30)
 dot c = hold-as (c .dot-product .ensures) (within-dot (c .before .pre .1) (c .before .pre .0 .normal-near)) tt
 
-dot-product-requires : tie.Need-dot-product-requires
-dot-product-requires c κs = search needs
-
 sub-result : tie.Need-sub-result
 sub-result c = let d = c .before .before in fits-sub (dot d) (hold (d .before .pre .0 .distance-within) tt) tt
 
@@ -23,4 +20,4 @@ unfolding distanceOf
 returns c = let d = c .before .before in hold-sub (dot d) (hold (d .before .pre .0 .distance-within) tt) tt .is
 
 pub distance-spec : {M : Type 1} → statement M
-distance-spec = tie.close (tie.spec dot-product-requires sub-result returns)
+distance-spec = tie.close (tie.spec (λ c κs. search needs) sub-result returns)

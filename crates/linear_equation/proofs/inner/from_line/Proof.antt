@@ -12,9 +12,6 @@ use Rattle.linear_equation.proofs.inner.from_line.Tie as tie
 normal : (c : tie.After-quarter-turn) → c .quarter-turn .result ≡ quarterTurn (delta (c .before .before .args .line))
 normal c = c .quarter-turn .ensures ∙ ap quarterTurn (c .before .delta .ensures)
 
-delta-requires : tie.Need-delta-requires
-delta-requires c κs = search needs
-
 quarter-turn-requires : tie.Need-quarter-turn-requires
 quarter-turn-requires c κs = rw (c .delta .ensures) (near-more (near-delta (c .before .pre)) (lit≤ tt))
 
@@ -31,4 +28,4 @@ returns c =
     simp (n, toZ-ofZ {w = w64} {z = c .dot-product .result} (search needs) ∙ c .dot-product .ensures ∙ ap (dotProduct start) n)
 
 pub from-line-spec : {M : Type 1} → statement M
-from-line-spec = tie.close (tie.spec delta-requires quarter-turn-requires dot-product-requires returns)
+from-line-spec = tie.close (tie.spec (λ c κs. search needs) quarter-turn-requires dot-product-requires returns)

@@ -5,11 +5,11 @@ use lib.Dec.{lit≤}
 use mir.Syntax.{w64}
 use mir.Val.{ofZ}
 use Rattle.whole.proofs.Machine.{Hold, hold, hold-as, literal, fits-neg, fits-mul, hold-neg, hold-mul}
-use Rattle.shapes.specs.Shape.{squaredLength}
+use Rattle.shapes.specs.Shape.{squaredLength, samePoint}
 use Rattle.shapes.proofs.Laws.{x-held, y-held, near-more, near-held, point-held, within-dot}
 use Rattle.bresenham.specs.Walk.{parametersAlong}
 use Rattle.bresenham.proofs.Laws.{major-unit}
-use Rattle.parallels.specs.Parallels.{samePoint, turnedBack, opposite, thickness, planAlong}
+use Rattle.parallels.specs.Parallels.{turnedBack, opposite, thickness, planAlong}
 use Rattle.parallels.proofs.inner.plan_along.Statement.{statement}
 use Rattle.parallels.proofs.inner.plan_along.Tie as tie
 

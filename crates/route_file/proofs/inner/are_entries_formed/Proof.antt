@@ -1,7 +1,6 @@
 -- `route_file::inner::are_entries_formed` meets its contract: the entries from here on are formed where all are. The measure is the
 -- number of those that are left. Assumes nothing.
 use mathlib.Core.Path.{_≡_, refl, sym, ap, _∙_}
-use mathlib.Core.Bool.{true, false}
 use Prim.Native.Nat.{_-_}
 use native.Mathlib.Numerals.{unary-clauses}
 use native.Mathlib.Omega.{arith}

@@ -1,51 +1,33 @@
 -- `route_joins::inner::segment_of` meets its contract. Assumes nothing.
-use mathlib.Core.Path.{_≡_, ap, _∙_}
-use mathlib.Core.Logic.{_≢_}
-use mathlib.Core.Bool.{Bool, true, false}
-use mathlib.Core.List.{List}
-use Prim.Native.Nat.{ℕ, _+_, _≤_, _<_}
-use native.Mathlib.Omega.{arith}
-use lib.IntN.{ℤ}
-use Rattle.line_join.proofs.Room.{thin-held, thin-back}
+use mathlib.Core.Path.{_≡_}
+use borrow.Author.Needs.{needs}
 use Rattle.coordinates.specs.Points.{pointCount}
-use Rattle.route_joins.specs.Joins.{openSegment, closedSegment, segmentOf, openCount, segmentCount}
+use Rattle.route_joins.proofs.Near.{drawable-back, place-inside}
+use Rattle.route_joins.specs.Joins.{segmentOf, segmentCount, endPlace}
+use Rattle.shapes.proofs.Widths.{thin-held}
 use Rattle.route_joins.proofs.inner.segment_of.Statement.{statement}
 use Rattle.route_joins.proofs.inner.segment_of.Tie as tie
 
--- a place of a closed route is one of its points, of which there are two or more
-closed-inside : {closed : Bool} {k : ℕ} (cs : List ℤ) → closed ≡ true → k < segmentCount closed cs → pointCount cs ≢ 1 → (2 ≤ pointCount cs) × (k < pointCount cs)
+next : (c : tie.After-end-place) → let s = c .before .before in c .end-place .result ≡ endPlace (s .args .closed) (pointCount (s .args .coordinates .now)) (s .args .k)
+next c = cc
+
+end-place-requires : tie.Need-end-place-requires
 unfolding segmentCount
-closed-inside cs e h several = let inside = rw e at h in (omega (arith, inside, several), inside)
+end-place-requires c κs = let s = c .before in rw (c .point-count .ensures) (place-inside (s .args .closed) (s .pre .1) .0)
 
--- a place of an open route is a point that another follows
-open-inside : {closed : Bool} {k : ℕ} (cs : List ℤ) → closed ≡ false → k < segmentCount closed cs → k + 1 < pointCount cs
-unfolding segmentCount openCount
-open-inside cs e h = let inside = rw e at h in omega (arith, inside)
+join-on-requires : tie.Need-join-on-requires
+unfolding segmentCount
+join-on-requires c κs = let s = c .before .before in (drawable-back (s .pre .0), place-inside (s .args .closed) (s .pre .1) .0)
 
-closed-segment-requires : tie.Need-closed-segment-requires
-closed-segment-requires c κs =
-    let s = c .before in
-    let a = s .pre .0 in
-    (a .near, (thin-back (a .thin), closed-inside (s .args .coordinates .now) (c .if1 .taken) (s .pre .1) (a .several (c .if1 .taken))))
+join-on-requires-2 : tie.Need-join-on-requires-2
+unfolding segmentCount
+join-on-requires-2 c κs =
+    let s = c .before .before .before in
+    (drawable-back (s .pre .0), rw (next (c .before)) (place-inside (s .args .closed) (s .pre .1) .1))
 
 returns : tie.Need-returns
 unfolding segmentOf
-returns c =
-    let s = c .before .before in
-    c .closed-segment .ensures ∙ ap (λ w. closedSegment (s .args .coordinates .now) w (s .args .offset) (s .args .k)) (thin-held (s .pre .0 .thin) .is) ∙ rw (c .before .if1 .taken)
-
-open-segment-requires : tie.Need-open-segment-requires
-open-segment-requires c κs =
-    let s = c .before in
-    let a = s .pre .0 in
-    (a .near, (thin-back (a .thin), open-inside (s .args .coordinates .now) (c .if1 .left) (s .pre .1)))
-
-returns-2 : tie.Need-returns-2
-unfolding segmentOf
-returns-2 c =
-    let s = c .before .before in
-    c .open-segment .ensures ∙ ap (λ w. openSegment (s .args .coordinates .now) w (s .args .k)) (thin-held (s .pre .0 .thin) .is) ∙ rw (c .before .if1 .left)
+returns c = cc (thin-held (c .before .before .before .before .pre .0 .thin) .is)
 
 pub segment-of-spec : {M : Type 1} → statement M
-segment-of-spec =
-    tie.close (tie.spec closed-segment-requires returns open-segment-requires returns-2)
+segment-of-spec = tie.close (tie.spec (λ c κs. search needs) end-place-requires join-on-requires join-on-requires-2 returns)

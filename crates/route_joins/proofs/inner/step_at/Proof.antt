@@ -4,21 +4,21 @@ use Prim.Native.Nat.{ℕ, _<_}
 use native.Mathlib.Omega.{arith}
 use borrow.Author.Needs.{needs}
 use mir.Facts.{toZ-ofZ}
-use Rattle.shapes.specs.Limits.{pointLimit, cornerLimit}
 use Rattle.thick_segment.specs.declared.Segment.{Segment}
 use Rattle.thick_segment.specs.Segments.{isSegmentNear}
-use Rattle.coordinates.specs.Refusal.{routeRefusal, Accepted}
+use Rattle.coordinates.specs.Refusal.{routeRefusal}
 use Rattle.coordinates.proofs.Laws.{accepted-exactly}
 use Rattle.route_joins.specs.declared.Step.the-variants.{Drawn, Refused}
 use Rattle.route_joins.specs.Joins.{segmentCount, segmentOf}
 use Rattle.route_joins.specs.Steps.{stepValues, routeStep, placeFrom}
+use Rattle.route_joins.proofs.Near.{drawable-back, accepted-drawable}
 use Rattle.route_joins.proofs.Walks.{step-refused, step-end, step-drawn, step-corner}
 use Rattle.route_joins.proofs.inner.step_at.Statement.{statement}
 use Rattle.route_joins.proofs.inner.step_at.Tie as tie
 
 -- the walk, by its refusal, its count and its segments
 abbrev refused : tie.Start → ℕ
-refused s = routeRefusal pointLimit (s .args .closed) (s .args .coordinates .now) (s .args .width)
+refused s = routeRefusal (s .args .limits .point) (s .args .closed) (s .args .coordinates .now) (s .args .width)
 
 abbrev count : tie.Start → ℕ
 count s = segmentCount (s .args .closed) (s .args .coordinates .now)
@@ -26,84 +26,73 @@ count s = segmentCount (s .args .closed) (s .args .coordinates .now)
 abbrev segment : tie.Start → ℕ → Segment
 segment s = segmentOf (s .args .closed) (s .args .coordinates .now) (s .args .width) (s .args .offset)
 
+abbrev corner : tie.Start → ℕ
+corner s = s .args .limits .corner
+
 -- what the calls say
 told : (c : tie.After-refusal) → c .refusal .result ≡ refused (c .before)
-told c = let s = c .before in c .refusal .ensures ∙ ap (routeRefusal pointLimit (s .args .closed) (s .args .coordinates .now)) (toZ-ofZ (s .fits .width))
+told c = cc (toZ-ofZ (c .before .fits .width))
 
 none : (c : tie.Else1) → refused (c .before .before) ≡ 0
 none c = omega (arith, told (c .before))
-
-accepted : (c : tie.Else1) → let s = c .before .before in Accepted pointLimit (s .args .closed) (s .args .coordinates .now) (s .args .width)
-accepted c = let s = c .before .before in accepted-exactly pointLimit (s .args .closed) (s .args .coordinates .now) (s .args .width) .0 (none c)
 
 inside : (c : tie.Then2) → let s = c .before .before .before .before in s .args .place < count s
 inside c = omega (arith, c .before .segment-count .ensures)
 
 here : (c : tie.After-segment-of) → let s = c .before .before .before .before .before in c .segment-of .result ≡ segment s (s .args .place)
-here c =
-    let s = c .before .before .before .before .before in
-    c .segment-of .ensures ∙ ap (λ w. segmentOf (s .args .closed) (s .args .coordinates .now) w (s .args .offset) (s .args .place)) (toZ-ofZ (s .fits .width))
+here c = cc (toZ-ofZ (c .before .before .before .before .before .fits .width))
 
-near : (c : tie.After-is-segment-near) → let s = c .before .before .before .before .before .before in isSegmentNear cornerLimit (segment s (s .args .place)) ≡ c .is-segment-near .result
-near c = sym (c .is-segment-near .ensures ∙ ap (isSegmentNear cornerLimit) (here (c .before)))
-
-refusal-requires : tie.Need-refusal-requires
-refusal-requires c κs = search needs
+near : (c : tie.After-is-segment-near) → let s = c .before .before .before .before .before .before in isSegmentNear (corner s) (segment s (s .args .place)) ≡ c .is-segment-near .result
+near c = cc (here (c .before))
 
 returns : tie.Need-returns
-unfolding routeStep placeFrom
+unfolding routeStep placeFrom stepValues
 returns c =
     let s = c .before .before in
     let e = told (c .before) in
-    (ap (λ n. stepValues (Refused n)) e ∙ sym (step-refused (refused s) (count s) (segment s) (s .args .place) (omega (arith, e))), refl)
-
-segment-count-requires : tie.Need-segment-count-requires
-segment-count-requires c κs = search needs
+    (ap (λ n. stepValues (Refused n)) e ∙ sym (step-refused (corner s) (refused s) (count s) (segment s) (s .args .place) (omega (arith, e))), refl)
 
 segment-of-requires : tie.Need-segment-of-requires
-segment-of-requires c κs = (rw (toZ-ofZ (c .before .before .before .before .fits .width)) (accepted (c .before .before)), inside c)
-
-add-further : tie.Need-add-further
-add-further c = search needs
-
-is-segment-near-requires : tie.Need-is-segment-near-requires
-is-segment-near-requires c κs = search needs
+segment-of-requires c κs =
+    let s = c .before .before .before .before in
+    let accepted = accepted-exactly (s .args .limits .point) (s .args .closed) (s .args .coordinates .now) (s .args .width) .0 (none (c .before .before)) in
+    (drawable-back (accepted-drawable (s .pre .point-room) accepted (inside c)), inside c)
 
 returns-2 : tie.Need-returns-2
-unfolding routeStep placeFrom
+unfolding routeStep placeFrom stepValues
 returns-2 c =
     let n = c .before in
     let t = n .before .before in
     let e = t .before .before in
     let s = e .before .before in
-    (ap (λ d. stepValues (Drawn d)) (here (n .before)) ∙ sym (step-drawn (refused s) (count s) (segment s) (s .args .place) (none e) (inside t) (near n ∙ c .if3 .taken)), refl)
+    (ap (λ d. stepValues (Drawn d)) (here (n .before)) ∙ sym (step-drawn (corner s) (refused s) (count s) (segment s) (s .args .place) (none e) (inside t) (near n ∙ c .if3 .taken)), refl)
 
 returns-3 : tie.Need-returns-3
-unfolding routeStep placeFrom
+unfolding routeStep placeFrom stepValues
 returns-3 c =
     let n = c .before in
     let t = n .before .before in
     let e = t .before .before in
     let s = e .before .before in
-    (sym (step-corner (refused s) (count s) (segment s) (s .args .place) (none e) (inside t) (near n ∙ c .if3 .left)), refl)
+    (sym (step-corner (corner s) (refused s) (count s) (segment s) (s .args .place) (none e) (inside t) (near n ∙ c .if3 .left)), refl)
 
 returns-4 : tie.Need-returns-4
-unfolding routeStep placeFrom
+unfolding routeStep placeFrom stepValues
 returns-4 c =
     let e = c .before .before in
     let s = e .before .before in
-    (sym (step-end (refused s) (count s) (segment s) (s .args .place) (none e) (omega (arith, c .before .segment-count .ensures))), refl)
+    (sym (step-end (corner s) (refused s) (count s) (segment s) (s .args .place) (none e) (omega (arith, c .before .segment-count .ensures))), refl)
 
 pub step-at-spec : {M : Type 1} → statement M
 step-at-spec =
     tie.close
     (tie.spec
-    refusal-requires
+    (λ c κs. search needs)
     returns
-    segment-count-requires
+    (λ c κs. search needs)
     segment-of-requires
-    add-further
-    is-segment-near-requires
+    (λ c. search needs)
+    (λ c κs. search needs)
     returns-2
     returns-3
     returns-4)

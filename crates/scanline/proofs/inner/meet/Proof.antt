@@ -1,86 +1,95 @@
--- `scanline::inner::meet` meets its contract: a row outside the line's rows has none of its points; else the walk does it. Assumes nothing.
+-- `scanline::inner::meet` meets its contract: on a row of the line it takes in the first and the last column, and off them none. Assumes nothing.
 use mathlib.Core.Path.{_≡_, sym, ap, _∙_}
-use Prim.Native.Nat.{suc}
+use native.Mathlib.Omega.{arith}
 use borrow.Author.Needs.{needs}
-use lib.IntN.{pos, natAbs}
-use lib.Signed.{leZ}
+use lib.Dec.{lit≤}
 use mir.Syntax.{w64}
-use mir.Val.{SFits, toZ, ofZ}
+use mir.Val.{toZ, ofZ}
 use mir.Facts.{toZ-ofZ}
-use Rattle.whole.specs.Number.{lesser, greater}
-use Rattle.whole.proofs.Spans.{of-bits}
+use Rattle.whole.proofs.Bounds.{within-more}
+use Rattle.whole.proofs.Machine.{Hold, hold-as}
+use Rattle.shapes.specs.Limits.{lineLimit}
 use Rattle.shapes.specs.declared.Line.{Line}
 use Rattle.shapes.specs.declared.Span.{Span}
-use Rattle.bresenham.specs.Walk.{placeOf, parametersOf}
-use Rattle.scanline.specs.Points.{pointsFrom, linePoints}
-use Rattle.scanline.specs.Meeting.{Heads, seenAll, met}
-use Rattle.scanline.proofs.Lines.{line-steady, line-heads}
-use Rattle.scanline.proofs.Laws.{met-above, met-below}
+use Rattle.bresenham.specs.Paces.{Between}
+use Rattle.scanline.specs.declared.quotients.Ends.{Ends}
+use Rattle.scanline.specs.Rows.{hasRow, endsOn, firstOn, lastOn}
+use Rattle.scanline.proofs.Rows.{row-exactly, counts-small, at-near, first-at, last-at, met-row}
+use Rattle.scanline.proofs.Laws.{met-off}
 use Rattle.scanline.proofs.inner.meet.Statement.{statement}
 use Rattle.scanline.proofs.inner.meet.Tie as tie
 
-record Known (s : Span) (l : Line) : Type 0 where
-  row : SFits w64 (s .row)
-  first : SFits w64 (l .start .y)
-  last : SFits w64 (l .end .y)
+abbrev span : tie.After-has-row → Span
+span c = c .before .before .args .span
 
-abbrev start : tie.After-struct-told3 → tie.Start
-start c = c .before .before .before .before .before
+abbrev line : tie.After-has-row → Line
+line c = c .before .before .args .line
 
-known : (c : tie.After-struct-told3) → Known (start c .args .span) (start c .args .line)
-known c = record { row = search needs; first = search needs; last = search needs }
+row-is : (c : tie.After-has-row) → toZ w64 (ofZ w64 (span c .row)) ≡ span c .row
+row-is c = toZ-ofZ {w = w64} {z = span c .row} (search needs)
 
-low-is : (c : tie.After-lesser) → toZ w64 (ofZ w64 (c .lesser .result)) ≡ lesser (start (c .before) .args .line .start .y) (start (c .before) .args .line .end .y)
-low-is c = let k = known (c .before) in toZ-ofZ {w = w64} {z = c .lesser .result} (search needs) ∙ c .lesser .ensures ∙ of-bits lesser (k .first) (k .last)
+-- what the test says
+tested : (c : tie.After-has-row) → c .has-row .result ≡ hasRow (line c) (span c .row)
+tested c = cc (row-is c)
 
-high-is : (c : tie.After-greater) → toZ w64 (ofZ w64 (c .greater .result)) ≡ greater (start (c .before .before .before) .args .line .start .y) (start (c .before .before .before) .args .line .end .y)
-high-is c = let k = known (c .before .before .before) in toZ-ofZ {w = w64} {z = c .greater .result} (search needs) ∙ c .greater .ensures ∙ of-bits greater (k .first) (k .last)
+on : (c : tie.Then1) → Between (line (c .before) .start .y) (line (c .before) .end .y) (span (c .before) .row)
+on c = row-exactly (line (c .before)) (span (c .before) .row) .0 (sym (tested (c .before)) ∙ c .if1 .taken)
 
-lesser-requires : tie.Need-lesser-requires
-lesser-requires c κs = search needs
+ends-on-requires : tie.Need-ends-on-requires
+ends-on-requires c κs = (c .before .before .before .pre, rw (row-is (c .before)) (on c))
+
+ends : (c : tie.After-ends-on) → c .ends-on .result ≡ endsOn (line (c .before .before)) (span (c .before .before) .row)
+ends c = cc (row-is (c .before .before))
+
+column-at-requires : tie.Need-column-at-requires
+column-at-requires c κs =
+    let s = c .before .before in
+    let near = s .before .before .pre in
+    (near, omega (arith, ap (λ (e : Ends). e .first) (ends c), counts-small (line s) (span s .row) (on (c .before)) near))
+
+column-at-requires-2 : tie.Need-column-at-requires-2
+column-at-requires-2 c κs =
+    let s = c .before .before .before in
+    let near = s .before .before .pre in
+    (near, omega (arith, ap (λ (e : Ends). e .last) (ends (c .before)), counts-small (line s) (span s .row) (on (c .before .before)) near))
+
+-- the two columns, in their bits
+first : (c : tie.After-column-at) → Hold (ofZ w64 (c .column-at .result)) (firstOn (line (c .before .before .before)) (span (c .before .before .before) .row)) lineLimit
+first c =
+    let s = c .before .before .before in
+    let o = on (c .before .before) in
+    hold-as {r = c .column-at .result} (cc (ends (c .before))) (at-near (line s) (span s .row) o (s .before .before .pre) (first-at (line s) (span s .row) o)) tt
+
+last : (c : tie.After-column-at2) → Hold (ofZ w64 (c .column-at2 .result)) (lastOn (line (c .before .before .before .before)) (span (c .before .before .before .before) .row)) lineLimit
+last c =
+    let s = c .before .before .before .before in
+    let o = on (c .before .before .before) in
+    hold-as {r = c .column-at2 .result} (cc (ends (c .before .before))) (at-near (line s) (span s .row) o (s .before .before .pre) (last-at (line s) (span s .row) o)) tt
+
+extend-requires : tie.Need-extend-requires
+extend-requires c κs = let h = first (c .before) in rw (h .is) (within-more (h .small) (lit≤ tt))
+
+extend-requires-2 : tie.Need-extend-requires-2
+extend-requires-2 c κs = let h = last (c .before) in rw (h .is) (within-more (h .small) (lit≤ tt))
 
 returns : tie.Need-returns
 returns c =
-    let m = c .before .before in
-    let a = start m .args in
-    sym (met-above (a .span) (a .line) (rw (toZ-ofZ (known m .row), low-is (c .before)) at (c .if1 .taken)))
-
-greater-requires : tie.Need-greater-requires
-greater-requires c κs = search needs
+    let h = c .before .before in
+    let t = h .before .before .before in
+    cc (met-row (span (t .before)) (line (t .before)) (on t), first (h .before) .is, last h .is)
 
 returns-2 : tie.Need-returns-2
-returns-2 c =
-    let m = c .before .before .before .before in
-    let a = start m .args in
-    sym (met-below (a .span) (a .line) (rw (toZ-ofZ (known m .row), high-is (c .before)) at (c .if2 .taken)))
-
-parameters-requires : tie.Need-parameters-requires
-parameters-requires c κs = search needs
-
-meet-walk-requires : tie.Need-meet-walk-requires
-meet-walk-requires c κs =
-    let m = c .before .before .before .before .before in
-    let k = known m in
-    let l = start m .args .line in
-    let near = start m .pre in
-    let heads : Heads (leZ (toZ w64 (ofZ w64 (l .start .y))) (toZ w64 (ofZ w64 (l .end .y)))) (parametersOf l) = rw (toZ-ofZ (k .first), toZ-ofZ (k .last)) (line-heads l) in
-    rw (c .parameters .ensures) (line-steady near, (heads, near .start-near))
-
-returns-3 : tie.Need-returns-3
-unfolding met linePoints
-returns-3 c =
-    let m = c .before .before .before .before .before .before in
-    let a = start m .args in
-    c .meet-walk .ensures ∙ ap (λ p. seenAll (a .span) (pointsFrom (suc (natAbs (p .threshold))) p (placeOf (a .line .start) (pos 0)))) (c .before .parameters .ensures)
+returns-2 c = let s = c .before in sym (met-off (span s) (line s) (sym (tested s) ∙ c .if1 .left))
 
 pub meet-spec : {M : Type 1} → statement M
 meet-spec =
     tie.close
     (tie.spec
-    lesser-requires
+    (λ c κs. search needs)
+    ends-on-requires
+    column-at-requires
+    column-at-requires-2
+    extend-requires
+    extend-requires-2
     returns
-    greater-requires
-    returns-2
-    parameters-requires
-    meet-walk-requires
-    returns-3)
+    returns-2)

@@ -5,12 +5,9 @@ use Rattle.scanline_intersections.specs.Merging.{mergedNext}
 use Rattle.scanline_intersections.proofs.inner.hand_out.Statement.{statement}
 use Rattle.scanline_intersections.proofs.inner.hand_out.Tie as tie
 
-try-take-requires : tie.Need-try-take-requires
-try-take-requires c κs = search needs
-
 returns : tie.Need-returns
 unfolding mergedNext
 returns c = let t = c .before .before in simp (t .try-take .ensures, toZ-ofZ (t .before .fits .width))
 
 pub hand-out-spec : {M : Type 1} → statement M
-hand-out-spec = tie.close (tie.spec try-take-requires returns)
+hand-out-spec = tie.close (tie.spec (λ c κs. search needs) returns)

@@ -3,19 +3,20 @@
 use mathlib.Core.Path.{_≡_, refl, sym, ap, ap₂, _∙_}
 use mathlib.Core.Bool.{false}
 use mathlib.Core.List.{List}
-use Prim.Native.Nat.{_-_}
+use Prim.Native.Nat.{_-_, _≤_, _<_}
 use native.Mathlib.Omega.{arith}
 use borrow.Author.Needs.{needs}
 use lib.IntN.{ℤ}
 use mir.Syntax.{w64}
 use mir.Val.{toZ, ofZ}
 use mir.Facts.{toZ-ofZ}
-use Rattle.shapes.specs.Limits.{cornerLimit}
+use Rattle.shapes.specs.Limits.{lineLimit}
+use Rattle.shapes.proofs.Widths.{thin-held, thin-back}
 use Rattle.scanline.specs.Spans.{tryExtended}
-use Rattle.line_join.proofs.Room.{thin-held, thin-back}
-use Rattle.thick_segment.specs.Segments.{SegmentNear, spanOn}
-use Rattle.route_joins.specs.Joins.{openCount, openSegment, areJoinsNear}
-use Rattle.scanline_intersections.specs.Segments.{spansFrom}
+use Rattle.thick_segment.specs.Segments.{SegmentNear}
+use Rattle.coordinates.specs.Points.{pointCount}
+use Rattle.route_joins.specs.Joins.{openCount, areJoinsNear, segmentCount, segmentsOf}
+use Rattle.scanline_intersections.specs.Segments.{spanAt, spansFrom}
 use Rattle.scanline_intersections.specs.Merging.{mergedNext, nextMerged}
 use Rattle.scanline_intersections.proofs.Spans.{segment-near, merged-more, merged-stop, merged-end}
 use Rattle.scanline_intersections.proofs.inner.merge.Statement.{statement}
@@ -46,52 +47,44 @@ row l = toZ w64 (ofZ w64 (begin l .args .walk .span .row))
 width-is : (l : tie.At-loop Inv-loop μ-loop) → width l ≡ begin l .args .walk .width
 width-is l = thin-held (begin l .pre .1 .0) .is
 
-row-is : (l : tie.At-loop Inv-loop μ-loop) → row l ≡ begin l .args .walk .span .row
-row-is l = toZ-ofZ {w = w64} {z = begin l .args .walk .span .row} (search needs)
-
 -- what the invariant says is left gives the answer
 left : (l : tie.At-loop Inv-loop μ-loop) → mergedNext (l .loop .place) (width l) (l .loop .gathered) (spansFrom (list l) (width l) (row l) (l .loop .place)) ≡ nextMerged (list l) (begin l .args .walk)
 unfolding nextMerged
 left l =
     let a = begin l .args .walk in
-    l .loop .inv .1 ∙ ap₂ (λ w row. mergedNext (a .place) w (a .span) (spansFrom (list l) w row (a .place))) (width-is l) (row-is l)
+    l .loop .inv .1
+    ∙ ap₂ (λ w row. mergedNext (a .place) w (a .span) (spansFrom (list l) w row (a .place))) (width-is l) (toZ-ofZ {w = w64} {z = a .span .row} (search needs))
 
 -- the segment and the span at the place, and whether it is gathered
-near : (c : tie.After-open-segment Inv-loop μ-loop) → SegmentNear cornerLimit (c .open-segment .result)
+inside : (c : tie.In-loop Inv-loop μ-loop) → c .before .loop .place < openCount (list (c .before))
+inside c = omega (arith, c .before .loop .inv .0)
+
+several : (c : tie.In-loop Inv-loop μ-loop) → 2 ≤ pointCount (list (c .before))
+unfolding segmentCount segmentsOf
+several c = omega (arith, inside c)
+
+near : (c : tie.After-segment-of Inv-loop μ-loop) → SegmentNear lineLimit (c .segment-of .result)
 near c =
     let l = c .before .before in
-    let all = ap (areJoinsNear cornerLimit false (list l)) (width-is l) ∙ begin l .pre .1 .1 in
-    rw (c .open-segment .ensures) (segment-near (list l) (width l) all (omega (arith, l .loop .inv .0)))
+    let all = ap (areJoinsNear lineLimit false (list l)) (width-is l) ∙ begin l .pre .1 .1 in
+    rw (c .segment-of .ensures) (segment-near (list l) (width l) all (inside (c .before)))
 
-other-is : (c : tie.After-span Inv-loop μ-loop) → let l = c .before .before .before in c .span .result ≡ spanOn (openSegment (list l) (width l) (l .loop .place)) (row l)
-other-is c = c .span .ensures ∙ ap (λ s. spanOn s (row (c .before .before .before))) (c .before .open-segment .ensures)
+other-is : (c : tie.After-span Inv-loop μ-loop) → let l = c .before .before .before in c .span .result ≡ spanAt (list l) (width l) (row l) (l .loop .place)
+other-is c = cc
 
-tried-is : (c : tie.After-try-extend Inv-loop μ-loop) → let l = c .before .before .before .before in c .try-extend .result ≡ tryExtended (l .loop .gathered) (spanOn (openSegment (list l) (width l) (l .loop .place)) (row l))
-tried-is c = c .try-extend .ensures ∙ ap (tryExtended (c .before .before .before .before .loop .gathered)) (other-is (c .before))
-
-open-count-requires : tie.Need-open-count-requires Inv-loop μ-loop
-open-count-requires c κs = search needs
+tried-is : (c : tie.After-try-extend Inv-loop μ-loop) → let l = c .before .before .before .before in c .try-extend .result ≡ tryExtended (l .loop .gathered) (spanAt (list l) (width l) (row l) (l .loop .place))
+tried-is c = cc (other-is (c .before))
 
 loop-holds : tie.Need-loop-holds Inv-loop μ-loop
-loop-holds c = (c .open-count .ensures, refl)
+loop-holds c = (c .segment-count .ensures, refl)
 
-open-segment-requires : tie.Need-open-segment-requires Inv-loop μ-loop
-unfolding openCount
-open-segment-requires c κs =
+segment-of-requires : tie.Need-segment-of-requires Inv-loop μ-loop
+segment-of-requires c κs =
     let s = begin (c .before) in
-    (s .pre .0, (thin-back (s .pre .1 .0), omega (arith, c .before .loop .inv .0)))
+    (record { near = s .pre .0; thin = thin-back (s .pre .1 .0); several = several c }, inside c)
 
 span-requires : tie.Need-span-requires Inv-loop μ-loop
 span-requires c κs = near c
-
-try-extend-requires : tie.Need-try-extend-requires Inv-loop μ-loop
-try-extend-requires c κs = search needs
-
-add-next : tie.Need-add-next Inv-loop μ-loop
-add-next c = search needs
-
-loop-less : tie.Need-loop-less Inv-loop μ-loop
-loop-less c = omega arith
 
 loop-again : tie.Need-loop-again Inv-loop μ-loop
 loop-again c =
@@ -107,9 +100,6 @@ returns c =
     let stop = merged-stop (list l) (width l) (row l) (l .loop .place) (l .loop .gathered) (omega (arith, l .loop .inv .0)) (sym (ap (λ j. j .joined) (tried-is e)) ∙ c .if1 .left) in
     rw (other-is (e .before)) (sym stop ∙ left l)
 
-hand-out-requires : tie.Need-hand-out-requires Inv-loop μ-loop
-hand-out-requires c κs = search needs
-
 returns-2 : tie.Need-returns-2 Inv-loop μ-loop
 returns-2 c =
     let l = c .before .before in
@@ -121,14 +111,14 @@ merge-spec =
     (tie.spec
     Inv-loop
     μ-loop
-    open-count-requires
+    (λ c κs. search needs)
     loop-holds
-    open-segment-requires
+    segment-of-requires
     span-requires
-    try-extend-requires
-    add-next
-    loop-less
+    (λ c κs. search needs)
+    (λ c. search needs)
+    (λ c. omega arith)
     loop-again
     returns
-    hand-out-requires
+    (λ c κs. search needs)
     returns-2)

@@ -3,12 +3,9 @@ use Rattle.shapes.specs.Shape.{delta}
 use Rattle.shapes.proofs.inner.delta.Statement.{statement}
 use Rattle.shapes.proofs.inner.delta.Tie as tie
 
-minus-requires : tie.Need-minus-requires
-minus-requires c κs = search needs
-
 returns : tie.Need-returns
 unfolding delta
 returns c = c .minus .ensures
 
 pub delta-spec : {M : Type 1} → statement M
-delta-spec = tie.close (tie.spec minus-requires returns)
+delta-spec = tie.close (tie.spec (λ c κs. search needs) returns)

@@ -1,22 +1,12 @@
-use mathlib.Core.Path.{sym, _∙_}
 use borrow.Author.Needs.{needs}
 use Rattle.shapes.specs.Shape.{isLineNear}
 use Rattle.shapes.proofs.inner.is_line_near.Statement.{statement}
 use Rattle.shapes.proofs.inner.is_line_near.Tie as tie
 
-is-near-requires : tie.Need-is-near-requires
-is-near-requires c κs = search needs
-
-is-near-requires-2 : tie.Need-is-near-requires-2
-is-near-requires-2 c κs = search needs
-
 returns : tie.Need-returns
 unfolding isLineNear
-returns c = c .is-near2 .ensures ∙ simp (sym (c .before .before .is-near .ensures) ∙ c .before .if1 .taken)
-
-returns-2 : tie.Need-returns-2
-unfolding isLineNear
-returns-2 c = simp (sym (c .before .is-near .ensures) ∙ c .if1 .left)
+returns c = cc
 
 pub is-line-near-spec : {M : Type 1} → statement M
-is-line-near-spec = tie.close (tie.spec is-near-requires is-near-requires-2 returns returns-2)
+is-line-near-spec =
+    tie.close (tie.spec (λ c κs. search needs) (λ c κs. search needs) (λ c κs. search needs) returns)

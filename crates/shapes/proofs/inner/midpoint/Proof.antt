@@ -16,9 +16,6 @@ dx c = rw (c .delta .ensures) (x-held (near-delta (c .before .pre)) tt)
 dy : (c : tie.After-delta) → Hold (ofZ w64 (c .delta .result .y)) (delta (c .before .args .line) .y) (2 ^ 15)
 dy c = rw (c .delta .ensures) (y-held (near-delta (c .before .pre)) tt)
 
-delta-requires : tie.Need-delta-requires
-delta-requires c κs = search needs
-
 div-t4 : tie.Need-div-t4
 div-t4 c = (lit< tt, fits-quot (dx (c .before .before)) (literal 2 tt) tt)
 
@@ -37,4 +34,4 @@ returns c =
     c .plus .ensures ∙ ap (plus (d .before .args .line .start)) (point-held (hold-quot (dx d) (literal 2 tt) tt) (hold-quot (dy d) (literal 2 tt) tt))
 
 pub midpoint-spec : {M : Type 1} → statement M
-midpoint-spec = tie.close (tie.spec delta-requires div-t4 div-t5 plus-requires returns)
+midpoint-spec = tie.close (tie.spec (λ c κs. search needs) div-t4 div-t5 plus-requires returns)

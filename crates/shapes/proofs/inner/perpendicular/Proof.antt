@@ -16,9 +16,6 @@ dx c = rw (c .delta .ensures) (x-held (near-delta (c .before .before .pre)) tt)
 dy : (c : tie.After-delta) → Hold (ofZ w64 (c .delta .result .y)) (delta (c .before .before .args .line) .y) (2 ^ 15)
 dy c = rw (c .delta .ensures) (y-held (near-delta (c .before .before .pre)) tt)
 
-delta-requires : tie.Need-delta-requires
-delta-requires c κs = search needs
-
 sub-t6 : tie.Need-sub-t6
 sub-t6 c = fits-neg (dx (c .before .before)) tt
 
@@ -35,4 +32,4 @@ returns c =
     ap (lineOf start) (c .plus .ensures ∙ ap (plus start) (point-held (dy d) (hold-neg (dx d) tt)))
 
 pub perpendicular-spec : {M : Type 1} → statement M
-perpendicular-spec = tie.close (tie.spec delta-requires sub-t6 plus-requires returns)
+perpendicular-spec = tie.close (tie.spec (λ c κs. search needs) sub-t6 plus-requires returns)

@@ -15,7 +15,7 @@ use Rattle.shapes.proofs.Laws.{near-delta}
 use Rattle.bresenham.proofs.Laws.{threshold-natural}
 use Rattle.bresenham.specs.Walk.{parametersOf}
 use Rattle.parallels.specs.Parallels.{deltaLimit}
-use Rattle.thick_points.specs.Listing.{majorLength}
+use Rattle.bresenham.specs.Points.{majorLength}
 use Rattle.thick_points.proofs.inner.major_length.Statement.{statement}
 use Rattle.thick_points.proofs.inner.major_length.Tie as tie
 

@@ -3,15 +3,9 @@ use borrow.Author.Needs.{needs}
 use Rattle.thick_segment.proofs.inner.edges.Statement.{statement}
 use Rattle.thick_segment.proofs.inner.edges.Tie as tie
 
-line-of-requires : tie.Need-line-of-requires
-line-of-requires c κs = search needs
-
-line-of-requires-2 : tie.Need-line-of-requires-2
-line-of-requires-2 c κs = search needs
-
 returns : tie.Need-returns
 unfolding edgesOf
 returns c = simp (c .before .line-of .ensures, c .line-of2 .ensures)
 
 pub edges-spec : {M : Type 1} → statement M
-edges-spec = tie.close (tie.spec line-of-requires line-of-requires-2 returns)
+edges-spec = tie.close (tie.spec (λ c κs. search needs) (λ c κs. search needs) returns)

@@ -4,29 +4,11 @@ use borrow.Author.Needs.{needs}
 use Rattle.thick_segment.proofs.inner.edges_bounding_box.Statement.{statement}
 use Rattle.thick_segment.proofs.inner.edges_bounding_box.Tie as tie
 
-edges-requires : tie.Need-edges-requires
-edges-requires c κs = search needs
-
-is-skeleton-requires : tie.Need-is-skeleton-requires
-is-skeleton-requires c κs = search needs
-
-box-of-requires : tie.Need-box-of-requires
-box-of-requires c κs = search needs
-
 returns : tie.Need-returns
 unfolding boundingBox
 returns c =
     let t = c .before in
     c .box-of .ensures ∙ ap (λ e. boxOf (e .left)) (t .before .before .edges .ensures) ∙ simp (sym (t .before .is-skeleton .ensures) ∙ t .if1 .taken)
-
-box-of-requires-2 : tie.Need-box-of-requires-2
-box-of-requires-2 c κs = search needs
-
-box-of-requires-3 : tie.Need-box-of-requires-3
-box-of-requires-3 c κs = search needs
-
-union-requires : tie.Need-union-requires
-union-requires c κs = search needs
 
 returns-2 : tie.Need-returns-2
 unfolding boundingBox
@@ -43,11 +25,11 @@ pub edges-bounding-box-spec : {M : Type 1} → statement M
 edges-bounding-box-spec =
     tie.close
     (tie.spec
-    edges-requires
-    is-skeleton-requires
-    box-of-requires
+    (λ c κs. search needs)
+    (λ c κs. search needs)
+    (λ c κs. search needs)
     returns
-    box-of-requires-2
-    box-of-requires-3
-    union-requires
+    (λ c κs. search needs)
+    (λ c κs. search needs)
+    (λ c κs. search needs)
     returns-2)

@@ -3,12 +3,9 @@ use borrow.Author.Needs.{needs}
 use Rattle.thick_segment.proofs.inner.is_skeleton.Statement.{statement}
 use Rattle.thick_segment.proofs.inner.is_skeleton.Tie as tie
 
-same-point-requires : tie.Need-same-point-requires
-same-point-requires c κs = search needs
-
 returns : tie.Need-returns
 unfolding isSkeleton
 returns c = c .same-point .ensures
 
 pub is-skeleton-spec : {M : Type 1} → statement M
-is-skeleton-spec = tie.close (tie.spec same-point-requires returns)
+is-skeleton-spec = tie.close (tie.spec (λ c κs. search needs) returns)

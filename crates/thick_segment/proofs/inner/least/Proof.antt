@@ -19,12 +19,6 @@ record Known (a b : Point) : Type 0 where
 known : (c : tie.After-struct-told4) → Known (c .before .before .before .before .args .a) (c .before .before .before .before .args .b)
 known c = record { ax = search needs; ay = search needs; bx = search needs; by = search needs }
 
-lesser-requires : tie.Need-lesser-requires
-lesser-requires c κs = search needs
-
-lesser-requires-2 : tie.Need-lesser-requires-2
-lesser-requires-2 c κs = search needs
-
 returns : tie.Need-returns
 unfolding least
 returns c =
@@ -35,4 +29,4 @@ returns c =
     )
 
 pub least-spec : {M : Type 1} → statement M
-least-spec = tie.close (tie.spec lesser-requires lesser-requires-2 returns)
+least-spec = tie.close (tie.spec (λ c κs. search needs) (λ c κs. search needs) returns)

@@ -19,12 +19,6 @@ record Known (a b : Point) : Type 0 where
 known : (c : tie.After-struct-told4) → Known (c .before .before .before .before .args .a) (c .before .before .before .before .args .b)
 known c = record { ax = search needs; ay = search needs; bx = search needs; by = search needs }
 
-greater-requires : tie.Need-greater-requires
-greater-requires c κs = search needs
-
-greater-requires-2 : tie.Need-greater-requires-2
-greater-requires-2 c κs = search needs
-
 returns : tie.Need-returns
 unfolding most
 returns c =
@@ -35,4 +29,4 @@ returns c =
     )
 
 pub most-spec : {M : Type 1} → statement M
-most-spec = tie.close (tie.spec greater-requires greater-requires-2 returns)
+most-spec = tie.close (tie.spec (λ c κs. search needs) (λ c κs. search needs) returns)

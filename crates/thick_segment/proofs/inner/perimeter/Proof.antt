@@ -17,15 +17,6 @@ first-most c = omega (arith, caps-most (c .before .before .start-caps .result), 
 last-most : (c : tie.After-cap-count2) → c .cap-count2 .result ≤ 2
 last-most c = omega (arith, caps-most (c .before .before .before .before .end-caps .result), c .cap-count2 .ensures)
 
-edges-requires : tie.Need-edges-requires
-edges-requires c κs = search needs
-
-is-skeleton-requires : tie.Need-is-skeleton-requires
-is-skeleton-requires c κs = search needs
-
-with-line-requires : tie.Need-with-line-requires
-with-line-requires c κs = search needs
-
 returns : tie.Need-returns
 unfolding perimeterOf drawn rowsOf
 returns c =
@@ -33,23 +24,8 @@ returns c =
     let d = t .before .before .before .before in
     c .with-line .ensures ∙ simp (sym (t .before .is-skeleton .ensures) ∙ t .if1 .taken, d .edges .ensures)
 
-start-caps-requires : tie.Need-start-caps-requires
-start-caps-requires c κs = search needs
-
-end-caps-requires : tie.Need-end-caps-requires
-end-caps-requires c κs = search needs
-
-cap-count-requires : tie.Need-cap-count-requires
-cap-count-requires c κs = search needs
-
-with-caps-requires : tie.Need-with-caps-requires
-with-caps-requires c κs = search needs
-
 with-caps-requires-2 : tie.Need-with-caps-requires-2
 with-caps-requires-2 c κs = omega (arith, first-most (c .before))
-
-cap-count-requires-2 : tie.Need-cap-count-requires-2
-cap-count-requires-2 c κs = search needs
 
 add-after-end : tie.Need-add-after-end
 add-after-end c = omega (arith, first-most (c .before .before .before), last-most c)
@@ -91,16 +67,16 @@ pub perimeter-spec : {M : Type 1} → statement M
 perimeter-spec =
     tie.close
     (tie.spec
-    edges-requires
-    is-skeleton-requires
-    with-line-requires
+    (λ c κs. search needs)
+    (λ c κs. search needs)
+    (λ c κs. search needs)
     returns
-    start-caps-requires
-    end-caps-requires
-    cap-count-requires
-    with-caps-requires
+    (λ c κs. search needs)
+    (λ c κs. search needs)
+    (λ c κs. search needs)
+    (λ c κs. search needs)
     with-caps-requires-2
-    cap-count-requires-2
+    (λ c κs. search needs)
     add-after-end
     with-line-requires-2
     add-with-line

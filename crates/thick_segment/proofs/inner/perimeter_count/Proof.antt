@@ -7,24 +7,9 @@ use borrow.Author.Needs.{needs}
 use Rattle.thick_segment.proofs.inner.perimeter_count.Statement.{statement}
 use Rattle.thick_segment.proofs.inner.perimeter_count.Tie as tie
 
-is-skeleton-requires : tie.Need-is-skeleton-requires
-is-skeleton-requires c κs = search needs
-
 returns : tie.Need-returns
 unfolding countOf drawn
 returns c = simp (sym (c .before .is-skeleton .ensures) ∙ c .if1 .taken)
-
-start-caps-requires : tie.Need-start-caps-requires
-start-caps-requires c κs = search needs
-
-cap-count-requires : tie.Need-cap-count-requires
-cap-count-requires c κs = search needs
-
-end-caps-requires : tie.Need-end-caps-requires
-end-caps-requires c κs = search needs
-
-cap-count-requires-2 : tie.Need-cap-count-requires-2
-cap-count-requires-2 c κs = search needs
 
 add-result : tie.Need-add-result
 add-result c = omega (arith, caps-most (c .before .before .before .start-caps .result), caps-most (c .before .end-caps .result), c .before .before .cap-count .ensures, c .cap-count2 .ensures)
@@ -45,12 +30,12 @@ pub perimeter-count-spec : {M : Type 1} → statement M
 perimeter-count-spec =
     tie.close
     (tie.spec
-    is-skeleton-requires
+    (λ c κs. search needs)
     returns
-    start-caps-requires
-    cap-count-requires
-    end-caps-requires
-    cap-count-requires-2
+    (λ c κs. search needs)
+    (λ c κs. search needs)
+    (λ c κs. search needs)
+    (λ c κs. search needs)
     add-result
     add-result-2
     returns-2)

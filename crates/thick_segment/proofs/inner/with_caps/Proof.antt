@@ -1,29 +1,8 @@
-use mathlib.Core.Path.{ap, _∙_}
+use mathlib.Core.Path.{_∙_}
 use borrow.Author.Needs.{needs}
 use Rattle.thick_segment.specs.Segments.{placed}
 use Rattle.thick_segment.proofs.inner.with_caps.Statement.{statement}
 use Rattle.thick_segment.proofs.inner.with_caps.Tie as tie
-
-enum-known-caps : tie.Need-enum-known-caps
-enum-known-caps c = search needs
-
-with-line-requires : tie.Need-with-line-requires
-with-line-requires c κs = search needs
-
-enum-known-caps-2 : tie.Need-enum-known-caps-2
-enum-known-caps-2 c = search needs
-
-with-line-requires-2 : tie.Need-with-line-requires-2
-with-line-requires-2 c κs = search needs
-
-add-with-line : tie.Need-add-with-line
-add-with-line c = search needs
-
-with-line-requires-3 : tie.Need-with-line-requires-3
-with-line-requires-3 c κs = search needs
-
-enum-told : tie.Need-enum-told
-enum-told c = search needs
 
 returns : tie.Need-returns
 unfolding placed
@@ -44,13 +23,13 @@ pub with-caps-spec : {M : Type 1} → statement M
 with-caps-spec =
     tie.close
     (tie.spec
-    enum-known-caps
-    with-line-requires
-    enum-known-caps-2
-    with-line-requires-2
-    add-with-line
-    with-line-requires-3
-    enum-told
+    (λ c. search needs)
+    (λ c κs. search needs)
+    (λ c. search needs)
+    (λ c κs. search needs)
+    (λ c. search needs)
+    (λ c κs. search needs)
+    (λ c. search needs)
     returns
     returns-2
     returns-3)

@@ -17,9 +17,6 @@ size c =
     let d = c .before .pre .1 .0 in
     hold-as (simp (hold d tt .is) at (c .magnitude .ensures)) (record { bound = d .bound }) tt
 
-magnitude-requires : tie.Need-magnitude-requires
-magnitude-requires c κs = search needs
-
 div-half : tie.Need-div-half
 div-half c = (lit< tt, fits-quot (size c) (literal 2 tt) tt)
 
@@ -58,4 +55,4 @@ returns-2 c =
 pub rounded-spec : {M : Type 1} → statement M
 rounded-spec =
     tie.close
-    (tie.spec magnitude-requires div-half sub-result div-result returns add-result div-result-2 returns-2)
+    (tie.spec (λ c κs. search needs) div-half sub-result div-result returns add-result div-result-2 returns-2)

@@ -16,9 +16,6 @@ use Rattle.whole.proofs.inner.within.Tie as tie
 most : (c : tie.Start) → Hold (c .args .limit) (pos (c .args .limit)) (2 ^ 32)
 most c = hold {z = pos (c .args .limit)} (record { bound = omega (arith, c .fits .limit) }) tt
 
-cast-most : tie.Need-cast-most
-cast-most c = search needs
-
 returns : tie.Need-returns
 unfolding isWithin
 returns c =
@@ -47,4 +44,4 @@ returns-3 c =
     sym (le-leb (natAbs x) (s .args .limit) (abs-le x (omega linear) (omega (linear, opp (pos (s .args .limit))))))
 
 pub within-spec : {M : Type 1} → statement M
-within-spec = tie.close (tie.spec cast-most returns sub-if2 returns-2 returns-3)
+within-spec = tie.close (tie.spec (λ c. search needs) returns sub-if2 returns-2 returns-3)

@@ -1,0 +1,24 @@
+-- Places round a closed route stay in it. Assumes nothing.
+use mathlib.Core.Path.{_≡_, refl}
+use mathlib.Core.Bool.{Bool, true, false, cond}
+use Prim.Native.Nat.{ℕ, _+_, _-_, _<_}
+use native.Mathlib.Omega.{arith}
+use borrow.Author.Tests.{eqb-false}
+use lib.Dec.{eqb}
+use Rattle.coordinates.specs.Points.{placeAfter, placeBefore}
+
+after-by : (n i : ℕ) (t : Bool) → eqb (i + 1) n ≡ t → i < n → cond t 0 (i + 1) < n
+after-by n i true e h = omega arith
+after-by n i false e h = let other = eqb-false (i + 1) n e in omega (arith, other)
+
+pub after-inside : {n i : ℕ} → i < n → placeAfter n i < n
+unfolding placeAfter
+after-inside {n} {i} = after-by n i (eqb (i + 1) n) refl
+
+before-by : (n i : ℕ) (t : Bool) → i < n → cond t (n - 1) (i - 1) < n
+before-by n i true h = omega arith
+before-by n i false h = omega arith
+
+pub before-inside : {n i : ℕ} → i < n → placeBefore n i < n
+unfolding placeBefore
+before-inside {n} {i} = before-by n i (eqb i 0)

@@ -1,0 +1,23 @@
+-- `route_joins::inner::join_on` meets its contract. Assumes nothing.
+use Rattle.route_joins.proofs.Near.{drawable-back}
+use Rattle.route_joins.specs.Joins.{joinOn}
+use Rattle.shapes.proofs.Widths.{thin-held}
+use Rattle.route_joins.proofs.inner.join_on.Statement.{statement}
+use Rattle.route_joins.proofs.inner.join_on.Tie as tie
+
+closed-join-requires : tie.Need-closed-join-requires
+closed-join-requires c κs = (drawable-back (c .before .pre .0), c .before .pre .1)
+
+returns : tie.Need-returns
+unfolding joinOn
+returns c = rw (c .before .if1 .taken) (cc (thin-held (c .before .before .pre .0 .thin) .is))
+
+open-join-requires : tie.Need-open-join-requires
+open-join-requires c κs = (drawable-back (c .before .pre .0), c .before .pre .1)
+
+returns-2 : tie.Need-returns-2
+unfolding joinOn
+returns-2 c = rw (c .before .if1 .left) (cc (thin-held (c .before .before .pre .0 .thin) .is))
+
+pub join-on-spec : {M : Type 1} → statement M
+join-on-spec = tie.close (tie.spec closed-join-requires returns open-join-requires returns-2)

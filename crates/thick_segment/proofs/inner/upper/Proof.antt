@@ -1,0 +1,13 @@
+use borrow.Author.Needs.{needs}
+use mir.Syntax.{w64}
+use mir.Facts.{toZ-ofZ}
+use Rattle.thick_segment.proofs.inner.upper.Statement.{statement}
+use Rattle.thick_segment.proofs.inner.upper.Tie as tie
+
+returns : tie.Need-returns
+returns c =
+    let s = c .before .before .before .args .corners in
+    cc (toZ-ofZ {w = w64} {z = s .left .y} (search needs), toZ-ofZ {w = w64} {z = s .right .y} (search needs), toZ-ofZ {w = w64} {z = c .lesser .result} (search needs))
+
+pub upper-spec : {M : Type 1} → statement M
+upper-spec = tie.close (tie.spec (λ c κs. search needs) returns)
