@@ -78,4 +78,7 @@ module _ (k : ℕ) {j : ℕ} {closed : Bool} {cs : List ℤ} {w : ℤ} (a : Acce
 
     -- 8 exactly when after some segment the union needs more than 32 runs
     pub row-eight : (drawn .refusal ≡ 8) ↔ Crowded (spansOn closed cs w row)
-    row-eight = rw row-draws (eight-exactly k row inside (spansOn closed cs w row) walk-fit)
+    row-eight =
+        let same = ap (λ b. b .refusal) row-draws in
+        let exactly = eight-exactly k row inside (spansOn closed cs w row) walk-fit in
+        (λ e. exactly .0 (sym same ∙ e), λ c. same ∙ exactly .1 c)

@@ -146,20 +146,25 @@ module _ (k : ℕ) (row : ℤ) where
   follows b held (s ∷ ss) fine (and-span p fit) e =
       let on = first-taken b s ss e in
       let same = offered-added (offerable fine p) in
+      let next = ap (λ a. a .board) same in
+      let taken = eq-eqb (offerRefusal k b s) 0 (ap (λ a. a .refusal) same ∙ on .0) in
       let rest = follows (added b s .board) (s ∷ held) ss (fine-next fine p) fit (ap (λ a. a .refusal) (sym (on .1)) ∙ e) in
-      rw (same, on .0)
-      (record {
-        board-is = ap (λ a. a .board) (on .1) ∙ rest .board-is;
-        covered-is = λ x. rest .covered-is x ∙ or-turned (covered ss x) (between (s .start) (s .end) x) (covered held x);
-        fine = rw (on .1) (rest .fine);
-      })
+      record {
+        board-is = ap (λ a. a .board) (on .1) ∙ rest .board-is ∙ ap (λ c. reached k c (offering ss)) (sym next);
+        covered-is =
+            λ x. ap (λ c. covered (accepted k c (cond (eqb (offerRefusal k b s) 0) (s ∷ held) held) (offering ss)) x) next
+            ∙ ap (λ t. covered (accepted k (added b s .board) (cond t (s ∷ held) held) (offering ss)) x) taken
+            ∙ rest .covered-is x
+            ∙ or-turned (covered ss x) (between (s .start) (s .end) x) (covered held x);
+        fine = subst (λ a. Fine (a .board)) (sym (on .1)) (rest .fine);
+      }
 
   sound-from : (b : Board) (ss : List Span) → Fine b → AllFit k row ss → Sound k (offerAll b ss .board)
   unfolding offerAll
   sound-from b [] fine fit = fine .sound
   sound-from b (s ∷ ss) fine (and-span p fit) =
-      ⊎-elim (λ z. rw (offer-on b s ss z) (sound-from (added b s .board) ss (fine-next fine p) fit))
-      (λ z. rw (offer-stop b s ss (full-no z)) (fine-next fine p .sound)) (added-either b s)
+      ⊎-elim (λ z. subst (λ a. Sound k (a .board)) (sym (offer-on b s ss z)) (sound-from (added b s .board) ss (fine-next fine p) fit))
+      (λ z. subst (λ a. Sound k (a .board)) (sym (offer-stop b s ss (full-no z))) (fine-next fine p .sound)) (added-either b s)
 
   module _ (near : Within row k) where
     abbrev fresh : Board
