@@ -8,4 +8,5 @@ pub mod Lists
 pub mod Offers
 pub mod Ranges
 pub mod Refused
+pub mod RowLists
 pub mod Told

@@ -58,7 +58,7 @@ module _ (limits : Limits) (closed : Bool) (cs : List ℤ) (w : ℤ) where
   unfolding drawRefusal
   draw-none =
       let both = or-none before (cond near 0 5) in
-      let five = bad-first near near-exactly (λ e. omega arith) in (
+      let five = bad-first near {n = 0} {rest = 5} near-exactly (λ e. omega arith) in (
         λ e. (taken-exactly .0 (both .0 e .0), five .0 (both .0 e .1)),
         λ h. both .1 (taken-exactly .1 (h .0), five .1 (h .1)),
       )
@@ -68,7 +68,7 @@ module _ (limits : Limits) (closed : Bool) (cs : List ℤ) (w : ℤ) where
   unfolding drawRefusal
   draw-five =
       let later = or-later before (cond near 0 5) {m = 5} (omega arith) (refused-most (limits .point) closed cs w (omega arith)) in
-      let five = good-first near near-exactly (λ e. omega arith) in (
+      let five = good-first near {n = 5} {rest = 0} near-exactly (λ e. omega arith) in (
         λ e. (taken-exactly .0 (later .0 e .0), five .0 (later .0 e .1)),
         λ h. later .1 (taken-exactly .1 (h .0), five .1 (h .1)),
       )

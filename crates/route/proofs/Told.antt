@@ -116,7 +116,6 @@ module _ (limits : Limits) (closed : Bool) (cs : List ℤ) (w row : ℤ) (out : 
     where
       by : (t u : Bool) → let a = cond t (cond u (listingOf (told drawn (length out))) (notListed on)) (notListed d) in
           a .refusal ≢ 0 → (a ≡ notListed (a .refusal)) × (cond t (cond u (toldTo drawn out) out) out ≡ out)
-      unfolding told toldTo
       by true true some = told-refused (leb (2 * length (live drawn)) (length out)) some
       by true false some = (refl, refl)
       by false u some = (refl, refl)

@@ -134,8 +134,7 @@ pub fn row_board(route: Joins, row: i64) -> Answer
         let start = route.joins[k];
         let end = route.joins[next];
         let lit = span(Segment { start, end }, row);
-        if is_empty(lit) {
-        } else {
+        if is_empty(lit) {} else {
             let answer = offer_sound(board, lit);
             if answer.refusal != 0 {
                 return answer;

@@ -52,10 +52,9 @@ pub fn rows(coordinates: &[i64], width: i64, closed: bool) -> RowRange
     ensures { λ r. ⌜ r ≡ rowsAnswer panelLimits closed (now (coordinates .entry)) width ⌝ }
 {
     let route = prepare(coordinates, width, closed, panel());
-    let refusal = route.refusal;
-    if refusal != 0 {
+    if route.refusal != 0 {
         return RowRange {
-            refusal,
+            refusal: route.refusal,
             some: false,
             first: 0,
             last: 0,

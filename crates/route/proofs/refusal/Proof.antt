@@ -1,44 +1,40 @@
+-- `route::refusal` meets its contract. Assumes nothing.
+use mathlib.Core.Path.{_≡_, ap, _∙_}
 use borrow.Author.Needs.{needs}
+use lib.Dec.{lit≤}
+use mir.Facts.{toZ-ofZ}
+use Rattle.shapes.specs.Limits.{panel, Roomy}
+use Rattle.route.specs.Rows.{rowsRefusal}
+use Rattle.route.specs.Answers.{preparedOf}
+use Rattle.route.proofs.Ranges.{rows-near}
+use Rattle.route.proofs.Chains.{Ready, ready, refused-with, whole-stopped, whole-made}
 use Rattle.route.proofs.refusal.Statement.{statement}
 use Rattle.route.proofs.refusal.Tie as tie
-use Rattle.route.proofs.refusal.Reads as reads
-use Rattle.route.proofs.refusal.Lts as lts
-use Rattle.route.proofs.inner.prepare.Reads as prepare-reads
-use Rattle.route.proofs.inner.rows_of.Reads as rows-of-reads
-use Rattle.route.proofs.inner.rows_refusal.Reads as rows-refusal-reads
-use Rattle.shapes.proofs.limits.panel.Reads as panel-reads
 
--- src/lib.rt:72:53
-panel-requires : tie.Need-panel-requires
-panel-requires c κs = search needs
+roomy : Roomy panel
+roomy = record { point-room = lit≤ tt; corner-room = lit≤ tt }
 
--- src/lib.rt:72:9
-prepare-requires : tie.Need-prepare-requires
-prepare-requires c κs = ?
+told : (c : tie.After-prepare) → let a = c .before .before .args in c .prepare .result ≡ preparedOf panel (a .closed) (a .coordinates .now) (a .width)
+told c = cc (toZ-ofZ (c .before .before .fits .width))
 
--- src/lib.rt:74:9
+-- nothing refuses the route
+free : (c : tie.Else1) → let p = c .before .before in let a = p .before .before .args in Ready panel (a .closed) (a .coordinates .now) (a .width) (p .prepare .result .joins)
+free c = let p = c .before .before in let a = p .before .before .args in ready panel (a .closed) (a .coordinates .now) (a .width) roomy (told p) (c .if1 .left)
+
 returns : tie.Need-returns
-returns c = ?
+returns c =
+    let p = c .before .before in
+    let a = p .before .before .args in
+    whole-stopped panel (a .closed) (a .coordinates .now) (a .width) (refused-with panel (a .closed) (a .coordinates .now) (a .width) (told p)) (c .if1 .taken)
 
--- src/lib.rt:76:31
-rows-of-requires : tie.Need-rows-of-requires
-rows-of-requires c κs = ?
-
--- src/lib.rt:76:5
 rows-refusal-requires : tie.Need-rows-refusal-requires
-rows-refusal-requires c κs = ?
+rows-refusal-requires c κs = let kept = free (c .before) .kept in (kept, rw (c .rows-of .ensures) (rows-near kept))
 
--- src/lib.rt:69:1
 returns-2 : tie.Need-returns-2
-returns-2 c = ?
+returns-2 c =
+    let p = c .before .before .before .before in
+    let a = p .before .before .args in
+    c .rows-refusal .ensures ∙ ap (rowsRefusal (p .prepare .result .joins)) (c .before .rows-of .ensures) ∙ whole-made panel (a .closed) (a .coordinates .now) (a .width) (free (c .before .before))
 
 pub refusal-spec : {M : Type 1} → statement M
-refusal-spec =
-    tie.close
-    (tie.spec
-    panel-requires
-    prepare-requires
-    returns
-    rows-of-requires
-    rows-refusal-requires
-    returns-2)
+refusal-spec = tie.close (tie.spec (λ c κs. search needs) (λ c κs. rw (c .panel .ensures) roomy) returns (λ c κs. free c .kept) rows-refusal-requires returns-2)

@@ -1,49 +1,46 @@
+-- `route::row` meets its contract. Assumes nothing.
+use mathlib.Core.Path.{_≡_, ap, _∙_}
 use borrow.Author.Needs.{needs}
+use lib.Dec.{lit≤}
+use mir.Facts.{toZ-ofZ}
+use Rattle.shapes.specs.Limits.{panel, Roomy}
+use lib.ListN.{length}
+use Rattle.route.specs.Answers.{preparedOf, answerOn, listOn}
+use Rattle.route.proofs.Chains.{Ready, ready, refused-with, row-stopped, row-made, list-made}
 use Rattle.route.proofs.row.Statement.{statement}
 use Rattle.route.proofs.row.Tie as tie
-use Rattle.route.proofs.row.Reads as reads
-use Rattle.route.proofs.row.Lts as lts
-use Rattle.route.proofs.inner.prepare.Reads as prepare-reads
-use Rattle.route.proofs.inner.refused.Reads as refused-reads
-use Rattle.route.proofs.inner.row_of.Reads as row-of-reads
-use Rattle.shapes.proofs.limits.panel.Reads as panel-reads
 
--- src/lib.rt:86:53
-panel-requires : tie.Need-panel-requires
-panel-requires c κs = search needs
+roomy : Roomy panel
+roomy = record { point-room = lit≤ tt; corner-room = lit≤ tt }
 
--- src/lib.rt:86:9
-prepare-requires : tie.Need-prepare-requires
-prepare-requires c κs = ?
+told : (c : tie.After-prepare) → let a = c .before .before .args in c .prepare .result ≡ preparedOf panel (a .closed) (a .coordinates .now) (a .width)
+told c = cc (toZ-ofZ (c .before .before .fits .width))
 
--- src/lib.rt:88:9
-refused-requires : tie.Need-refused-requires
-refused-requires c κs = search needs
+-- nothing refuses the route
+free : (c : tie.Else1) → let p = c .before .before in let a = p .before .before .args in Ready panel (a .closed) (a .coordinates .now) (a .width) (p .prepare .result .joins)
+free c = let p = c .before .before in let a = p .before .before .args in ready panel (a .closed) (a .coordinates .now) (a .width) roomy (told p) (c .if1 .left)
 
--- src/lib.rt:88:9
 returns : tie.Need-returns
-returns c = ?
+returns c =
+    let p = c .before .before .before in
+    let a = p .before .before .args in
+    row-stopped panel (a .closed) (a .coordinates .now) (a .width) (refused-with panel (a .closed) (a .coordinates .now) (a .width) (told p)) (c .before .if1 .taken) (a .row) (a .out .now) (c .refused .ensures)
 
--- src/lib.rt:90:5
-row-of-requires : tie.Need-row-of-requires
-row-of-requires c κs = ?
-
--- src/lib.rt:83:1
-same-length : tie.Need-same-length
-same-length c = search needs
-
--- src/lib.rt:83:1
 returns-2 : tie.Need-returns-2
-returns-2 c = ?
+returns-2 c =
+    let r = c .before in
+    let e = r .before .before in
+    let p = e .before .before in
+    let s = p .before .before in
+    let a = s .args in
+    let joins = p .prepare .result .joins in
+    let f = free e in
+    let row = toZ-ofZ (s .fits .row) in (
+      r .row-of .ensures .0 ∙ ap (λ y. answerOn (panel .corner) joins y (length (a .out .now))) row ∙ row-made panel (a .closed) (a .coordinates .now) (a .width) f (a .row) (length (a .out .now)),
+      r .row-of .ensures .1 ∙ ap (λ y. listOn (panel .corner) joins y (a .out .now)) row ∙ list-made panel (a .closed) (a .coordinates .now) (a .width) f (a .row) (a .out .now),
+    )
 
 pub row-spec : {M : Type 1} → statement M
 row-spec =
     tie.close
-    (tie.spec
-    panel-requires
-    prepare-requires
-    refused-requires
-    returns
-    row-of-requires
-    same-length
-    returns-2)
+    (tie.spec (λ c κs. search needs) (λ c κs. rw (c .panel .ensures) roomy) (λ c κs. search needs) returns (λ c κs. (free (c .before) .kept, lit≤ tt)) (λ c. search needs) returns-2)

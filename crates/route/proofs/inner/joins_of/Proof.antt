@@ -1,66 +1,114 @@
+-- `route::inner::joins_of` meets its contract: the array holds the joins so far, and the test of these and of those that are left is the test
+-- of all. The measure is how many are left. Assumes nothing.
+use mathlib.Core.Path.{_≡_, sym, ap, _∙_}
+use mathlib.Core.Bool.{Bool, _&&_}
+use mathlib.Core.List.{List}
+use Prim.Native.Nat.{ℕ, _+_, _-_, _≤_, _<_}
+use native.Mathlib.Omega.{arith}
+use borrow.Author.Needs.{needs}
+use lib.ListN.{set, replicate}
+use mir.Syntax.{w64}
+use mir.Val.{toZ, ofZ}
+use Rattle.whole.specs.Places.{allFrom, listFrom}
+use Rattle.whole.proofs.Places.{list-length}
+use Rattle.shapes.proofs.Widths.{thin-held, thin-back}
+use Rattle.line_join.specs.declared.Join.{Join}
+use Rattle.line_join.specs.Caps.{isJoinNear}
+use Rattle.board.proofs.Arrays.{partly, fill-turn, fill-done}
+use Rattle.coordinates.specs.Points.{pointCount}
+use Rattle.route_joins.specs.Joins.{joinAt, joinCount, areJoinsNear}
+use Rattle.route_joins.proofs.Near.{join-inside}
+use Rattle.route.specs.declared.Joins.{Joins}
+use Rattle.route.specs.Joined.{noJoin, keptIn, joinsOf}
+use Rattle.route.proofs.Lists.{list-drop, tested-more, tested-done}
 use Rattle.route.proofs.inner.joins_of.Statement.{statement}
 use Rattle.route.proofs.inner.joins_of.Tie as tie
-use Rattle.route.proofs.inner.joins_of.Reads as reads
-use Rattle.route.proofs.inner.joins_of.Lts as lts
-use Rattle.line_join.proofs.inner.is_join_near.Reads as is-join-near-reads
-use Rattle.route.proofs.inner.no_join.Reads as no-join-reads
-use Rattle.route_joins.proofs.inner.join_count.Reads as join-count-reads
-use Rattle.route_joins.proofs.inner.join_on.Reads as join-on-reads
-use Rattle.whole.proofs.inner.both.Reads as both-reads
 
 abbrev Inv-loop : tie.InvT-loop
-Inv-loop coordinates width closed limit count joins₀ near₀ i₀ joins near i = ?
+Inv-loop coordinates width closed limit count joins₀ near₀ i₀ joins near i =
+    let join = joinAt closed coordinates (toZ w64 width) in
+    (i ≤ count) × ((count ≡ joinCount coordinates)
+    × ((joins ≡ partly 256 noJoin (listFrom join 0 count) i)
+    × ((near && allFrom (λ j. isJoinNear limit (join j)) i (count - i)) ≡ areJoinsNear limit closed coordinates (toZ w64 width))))
 
 abbrev μ-loop : tie.MeasureT-loop
-μ-loop coordinates width closed limit count joins₀ near₀ i₀ joins near i = ?
+μ-loop coordinates width closed limit count joins₀ near₀ i₀ joins near i = count - i
 
--- src/inner.rt:80:9
-join-count-requires : tie.Need-join-count-requires Inv-loop μ-loop
-join-count-requires c κs = ?
+-- the loop's start, its joins by their place with the width as the calls have it, and the test of each
+abbrev Counted : Type 0
+Counted = tie.After-join-count Inv-loop μ-loop
 
--- src/inner.rt:81:9
-no-join-requires : tie.Need-no-join-requires Inv-loop μ-loop
-no-join-requires c κs = ?
+module _ (c : Counted) where
+  abbrev n : ℕ
+  n = c .join-count .result
 
--- src/inner.rt:85:5
+  abbrev join : ℕ → Join
+  join = let a = c .before .args in joinAt (a .closed) (a .coordinates .now) (toZ w64 (ofZ w64 (a .width)))
+
+  abbrev test : ℕ → Bool
+  test j = isJoinNear (c .before .args .limit) (join j)
+
+  -- every place of the loop is one of the route, and of the array
+  inside : {i : ℕ} → i < n → (2 ≤ pointCount (c .before .args .coordinates .now)) × (i < pointCount (c .before .args .coordinates .now))
+  inside h = join-inside (c .before .args .coordinates .now) (omega (arith, c .join-count .ensures))
+
+  room : {i : ℕ} → i < n → i < 256
+  room h = omega (arith, inside h .1, c .before .pre .1 .1)
+
 loop-holds : tie.Need-loop-holds Inv-loop μ-loop
-loop-holds c = ?
+unfolding areJoinsNear
+loop-holds c =
+    let e = c .before .join-count .ensures in
+    let all : c .before .join-count .result - 0 ≡ joinCount (c .before .before .args .coordinates .now) = omega (arith, e) in
+    (omega arith, (e, (ap (replicate 256) (c .no-join .ensures), ap (allFrom (test (c .before)) 0) all)))
 
--- src/inner.rt:86:13
+-- ---- in a turn of the loop
+
+abbrev counted : tie.In-loop Inv-loop μ-loop → Counted
+counted c = c .before .before .before
+
+room-here : (c : tie.In-loop Inv-loop μ-loop) → c .before .loop .i < 256
+room-here c = room (counted c) (c .loop-test .taken)
+
 join-on-requires : tie.Need-join-on-requires Inv-loop μ-loop
-join-on-requires c κs = ?
+join-on-requires c κs =
+    let s = counted c .before in
+    let i = inside (counted c) (c .loop-test .taken) in
+    (record { near = s .pre .0; thin = thin-back (s .pre .1 .0); several = i .0 }, i .1)
 
--- src/inner.rt:87:27
-is-join-near-requires : tie.Need-is-join-near-requires Inv-loop μ-loop
-is-join-near-requires c κs = ?
+near : (c : tie.After-both Inv-loop μ-loop) → let l = c .before .before .before in
+    c .both .result ≡ (l .before .loop .near && test (counted l) (l .before .loop .i))
+near c = cc
 
--- src/inner.rt:87:9
-both-requires : tie.Need-both-requires Inv-loop μ-loop
-both-requires c κs = ?
-
--- src/inner.rt:88:9
-mul-joins : tie.Need-mul-joins Inv-loop μ-loop
-mul-joins c = ?
-
--- src/inner.rt:88:9
-array-set-from-joins : tie.Need-array-set-from-joins Inv-loop μ-loop
-array-set-from-joins c = ?
-
--- src/inner.rt:89:9
-add-i : tie.Need-add-i Inv-loop μ-loop
-add-i c = ?
-
--- src/inner.rt:85:5
-loop-less : tie.Need-loop-less Inv-loop μ-loop
-loop-less c = ?
-
--- src/inner.rt:85:5
 loop-again : tie.Need-loop-again Inv-loop μ-loop
-loop-again c = ?
+loop-again c =
+    let l = c .before .before .before in
+    let s = counted l in
+    let i = l .before .loop .i in
+    let more = l .loop-test .taken in
+    let inv = l .before .loop .inv .1 .1 in
+    let all = listFrom (join s) 0 (n s) in (
+      omega arith,
+      (
+        l .before .loop .inv .1 .0,
+        (
+          ap (λ js. set js i (c .before .before .join-on .result)) (inv .0) ∙ ap (set (partly 256 noJoin all i) i) (c .before .before .join-on .ensures)
+              ∙ fill-turn 256 noJoin all (listFrom (join s) (i + 1) (n s - (i + 1))) i (join s i) (room s more) (list-drop (join s) (n s) i more),
+          ap (λ t. t && allFrom (test s) (i + 1) (n s - (i + 1))) (near c) ∙ tested-more (test s) (l .before .loop .near) (n s) i more ∙ inv .1,
+        ),
+      ),
+    )
 
--- src/inner.rt:74:1
 returns : tie.Need-returns Inv-loop μ-loop
-returns c = ?
+unfolding joinsOf keptIn
+returns c =
+    let l = c .before in
+    let s = l .before .before in
+    let inv = l .loop .inv .1 .1 in
+    let last : l .loop .i ≡ n s = omega (arith, l .loop .inv .0) in
+    let full = inv .0 ∙ fill-done 256 noJoin (listFrom (join s) 0 (n s)) (l .loop .i) (last ∙ sym (list-length (join s) 0 (n s))) in
+    let tested = sym (tested-done (test s) (l .loop .near) (n s) (l .loop .i) (omega arith)) ∙ inv .1 in
+    rw (← thin-held (s .before .pre .1 .0) .is, full, tested, l .loop .inv .1 .0)
 
 pub joins-of-spec : {M : Type 1} → statement M
 joins-of-spec =
@@ -68,15 +116,15 @@ joins-of-spec =
     (tie.spec
     Inv-loop
     μ-loop
-    join-count-requires
-    no-join-requires
+    (λ c κs. search needs)
+    (λ c κs. search needs)
     loop-holds
     join-on-requires
-    is-join-near-requires
-    both-requires
-    mul-joins
-    array-set-from-joins
-    add-i
-    loop-less
+    (λ c κs. search needs)
+    (λ c κs. search needs)
+    (λ c. omega (arith, room-here (c .before .before .before)))
+    (λ c. room-here (c .before .before .before))
+    (λ c. omega (arith, room-here (c .before .before .before)))
+    (λ c. omega arith)
     loop-again
     returns)

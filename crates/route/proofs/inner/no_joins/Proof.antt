@@ -1,17 +1,16 @@
+-- `route::inner::no_joins` meets its contract. Assumes nothing.
 use borrow.Author.Needs.{needs}
+use mathlib.Core.Path.{ap}
+use mathlib.Core.Bool.{true, false}
+use lib.ListN.{replicate}
+use Rattle.route.specs.declared.Joins.{Joins}
+use Rattle.route.specs.Answers.{noJoins}
 use Rattle.route.proofs.inner.no_joins.Statement.{statement}
 use Rattle.route.proofs.inner.no_joins.Tie as tie
-use Rattle.route.proofs.inner.no_joins.Reads as reads
-use Rattle.route.proofs.inner.no_joins.Lts as lts
-use Rattle.route.proofs.inner.no_join.Reads as no-join-reads
 
--- src/inner.rt:64:9
-no-join-requires : tie.Need-no-join-requires
-no-join-requires c κs = search needs
-
--- src/inner.rt:61:1
 returns : tie.Need-returns
-returns c = ?
+unfolding noJoins
+returns c = ap {B = Joins} (λ j. record { closed = false; count = 0; near = true; joins = replicate 256 j }) (c .no-join .ensures)
 
 pub no-joins-spec : {M : Type 1} → statement M
-no-joins-spec = tie.close (tie.spec no-join-requires returns)
+no-joins-spec = tie.close (tie.spec (λ c κs. search needs) returns)

@@ -1,59 +1,68 @@
+-- `route::inner::row_of` meets its contract. Assumes nothing.
+use mathlib.Core.Path.{_≡_, sym, ap, subst, _∙_}
+use native.Mathlib.Omega.{arith}
 use borrow.Author.Needs.{needs}
+use mir.Facts.{toZ-ofZ}
+use mir.Syntax.{w64}
+use Rattle.whole.specs.Number.{isWithin}
+use Rattle.whole.proofs.Laws.{true-within}
+use Rattle.shapes.specs.Limits.{lineLimit}
+use Rattle.board.specs.Boards.{Sound}
+use Rattle.route.specs.Rows.{boardOn}
+use Rattle.route.specs.Answers.{refusalOn}
+use Rattle.route.proofs.Drawn.{drawn-sound}
+use Rattle.route.proofs.RowLists.{refused-on, listed-on}
 use Rattle.route.proofs.inner.row_of.Statement.{statement}
 use Rattle.route.proofs.inner.row_of.Tie as tie
-use Rattle.route.proofs.inner.row_of.Reads as reads
-use Rattle.route.proofs.inner.row_of.Lts as lts
-use Rattle.board.proofs.inner.list_sound.Reads as list-sound-reads
-use Rattle.route.proofs.inner.refused.Reads as refused-reads
-use Rattle.route.proofs.inner.row_board.Reads as row-board-reads
-use Rattle.whole.proofs.inner.within.Reads as within-reads
 
--- src/inner.rt:167:8
-within-requires : tie.Need-within-requires
-within-requires c κs = search needs
+inside : (c : tie.After-within) → let a = c .before .args in c .within .result ≡ isWithin (a .limit) (a .row)
+inside c = cc (toZ-ofZ (c .before .fits .row))
 
--- src/inner.rt:168:13
-row-board-requires : tie.Need-row-board-requires
-row-board-requires c κs = search needs
+drawn : (c : tie.After-row-board) → let a = c .before .before .before .args in c .row-board .result ≡ boardOn (a .route) (a .row)
+drawn c = cc (toZ-ofZ (c .before .before .before .fits .row))
 
--- src/inner.rt:170:13
-refused-requires : tie.Need-refused-requires
-refused-requires c κs = search needs
+-- the number of the row
+number : (c : tie.After-row-board) → let a = c .before .before .before .args in refusalOn (a .limit) (a .route) (a .row) ≡ c .row-board .result .refusal
+unfolding refusalOn
+number c = rw (← drawn c, ← inside (c .before .before), c .before .if1 .taken)
 
--- src/inner.rt:170:13
 returns : tie.Need-returns
-returns c = ?
+returns c =
+    let b = c .before .before .before in
+    let a = b .before .before .before .args in
+    refused-on (a .limit) (a .route) (a .row) (a .out .now) (c .refused .ensures) (number b) (c .before .if2 .taken)
 
--- src/inner.rt:172:13
 list-sound-requires : tie.Need-list-sound-requires
-list-sound-requires c κs = ?
+list-sound-requires c κs =
+    let b = c .before .before .before in
+    let s = b .before .before .before in
+    let near = true-within (s .args .limit) (s .args .row) (sym (inside (b .before .before)) ∙ b .before .if1 .taken) in
+    subst (λ a. Sound lineLimit (a .board)) (sym (drawn b)) (drawn-sound (s .pre .0) (record { bound = omega (arith, near .bound, s .pre .1) }))
 
--- src/inner.rt:173:9
-same-length : tie.Need-same-length
-same-length c = search needs
-
--- src/inner.rt:173:9
 returns-2 : tie.Need-returns-2
-returns-2 c = ?
+returns-2 c =
+    let l = c .before .before in
+    let b = l .before .before .before .before in
+    let a = b .before .before .before .args in
+    listed-on (a .limit) (a .route) (a .row) (a .out .now) (number b ∙ l .before .before .if2 .left) (ap (λ d. d .board) (drawn b)) (l .list-sound .ensures .0) (toZ-ofZ {w = w64} {z = l .list-sound .result .total} (search needs)) (l .list-sound .ensures .1)
 
--- src/inner.rt:179:5
-refused-requires-2 : tie.Need-refused-requires-2
-refused-requires-2 c κs = search needs
-
--- src/inner.rt:162:1
 returns-3 : tie.Need-returns-3
-returns-3 c = ?
+unfolding refusalOn
+returns-3 c =
+    let w = c .before .before in
+    let a = w .before .args in
+    refused-on (a .limit) (a .route) (a .row) (a .out .now) (c .refused2 .ensures) (rw (← inside w, c .before .if1 .left)) (λ e. omega (arith, e))
 
 pub row-of-spec : {M : Type 1} → statement M
 row-of-spec =
     tie.close
     (tie.spec
-    within-requires
-    row-board-requires
-    refused-requires
+    (λ c κs. search needs)
+    (λ c κs. search needs)
+    (λ c κs. search needs)
     returns
     list-sound-requires
-    same-length
+    (λ c. search needs)
     returns-2
-    refused-requires-2
+    (λ c κs. search needs)
     returns-3)

@@ -1,69 +1,72 @@
+-- `route::inner::rows_of` meets its contract: the rows so far, widened by the boxes that are left, are all rows. The measure is how many are left.
+-- Assumes nothing.
+use mathlib.Core.Path.{_≡_, sym, ap, _∙_}
+use Prim.Native.Nat.{ℕ, _+_, _-_, _≤_, _<_}
+use native.Mathlib.Omega.{arith}
+use borrow.Author.Needs.{needs}
+use lib.ListN.{getD}
+use Rattle.whole.specs.Places.{listFrom}
+use Rattle.whole.proofs.Places.{list-end, list-next}
+use Rattle.thick_segment.specs.declared.Rectangle.{Rectangle}
+use Rattle.thick_segment.specs.Segments.{boundingBox}
+use Rattle.route_joins.specs.Joins.{endPlace}
+use Rattle.route_joins.proofs.Near.{place-inside}
+use Rattle.route.specs.declared.Joins.{Joins}
+use Rattle.route.specs.declared.RowRange.{RowRange}
+use Rattle.route.specs.Joined.{segmentsIn, segmentIn}
+use Rattle.route.specs.Rows.{withBox, withBoxes, boxIn, rowsIn}
+use Rattle.route.proofs.Kept.{ends-in-array, segment-near}
 use Rattle.route.proofs.inner.rows_of.Statement.{statement}
 use Rattle.route.proofs.inner.rows_of.Tie as tie
-use Rattle.route.proofs.inner.rows_of.Reads as reads
-use Rattle.route.proofs.inner.rows_of.Lts as lts
-use Rattle.route.proofs.inner.with_box.Reads as with-box-reads
-use Rattle.route_joins.proofs.inner.end_place.Reads as end-place-reads
-use Rattle.route_joins.proofs.inner.segments_of.Reads as segments-of-reads
-use Rattle.thick_segment.proofs.inner.edges_bounding_box.Reads as edges-bounding-box-reads
 
 abbrev Inv-loop : tie.InvT-loop
-Inv-loop route count closed n rows₀ k₀ rows k = ?
+Inv-loop route count closed n rows₀ k₀ rows k = (k ≤ n) × ((n ≡ segmentsIn route) × (withBoxes rows (listFrom (boxIn route) k (n - k)) ≡ rowsIn route))
 
 abbrev μ-loop : tie.MeasureT-loop
-μ-loop route count closed n rows₀ k₀ rows k = ?
+μ-loop route count closed n rows₀ k₀ rows k = n - k
 
--- src/inner.rt:211:9
-segments-of-requires : tie.Need-segments-of-requires Inv-loop μ-loop
-segments-of-requires c κs = ?
-
--- src/inner.rt:219:5
 loop-holds : tie.Need-loop-holds Inv-loop μ-loop
-loop-holds c = ?
+unfolding rowsIn
+loop-holds c =
+    let n = c .segments-of .ensures in
+    let all : c .segments-of .result - 0 ≡ segmentsIn (c .before .args .t1) = omega (arith, n) in
+    (omega arith, (n, rw all))
 
--- src/inner.rt:220:13
-end-place-requires : tie.Need-end-place-requires Inv-loop μ-loop
-end-place-requires c κs = ?
+-- ---- in a turn of the loop
 
--- src/inner.rt:221:21
-mul-start : tie.Need-mul-start Inv-loop μ-loop
-mul-start c = ?
+module _ (c : tie.In-loop Inv-loop μ-loop) where
+  abbrev route : Joins
+  route = c .before .before .before .args .t1
 
--- src/inner.rt:221:21
-element-copy-out-start : tie.Need-element-copy-out-start Inv-loop μ-loop
-element-copy-out-start c = ?
+  abbrev place : ℕ
+  place = c .before .loop .k
 
--- src/inner.rt:222:19
-mul-end : tie.Need-mul-end Inv-loop μ-loop
-mul-end c = ?
+  inner : place < segmentsIn route
+  inner = omega (arith, c .loop-test .taken, c .before .loop .inv .1 .0)
 
--- src/inner.rt:222:19
-element-copy-out-end : tie.Need-element-copy-out-end Inv-loop μ-loop
-element-copy-out-end c = ?
+  inside : (place < 256) × (endPlace (route .closed) (route .count) place < 256)
+  inside = ends-in-array (c .before .before .before .pre) inner
 
--- src/inner.rt:223:31
-edges-bounding-box-requires : tie.Need-edges-bounding-box-requires Inv-loop μ-loop
-edges-bounding-box-requires c κs = ?
+  -- the boxes that are left begin with that of the place
+  left : let n = c .before .before .segments-of .result in
+      withBoxes (withBox (c .before .loop .rows) (boxIn route place)) (listFrom (boxIn route) (place + 1) (n - (place + 1))) ≡ rowsIn route
+  unfolding withBoxes
+  left = ap (withBoxes (c .before .loop .rows)) (sym (list-next (boxIn route) (c .before .before .segments-of .result) place (c .loop-test .taken))) ∙ c .before .loop .inv .1 .1
 
--- src/inner.rt:223:9
-with-box-requires : tie.Need-with-box-requires Inv-loop μ-loop
-with-box-requires c κs = ?
+widened : (c : tie.After-with-box Inv-loop μ-loop) → let l = c .before .before .before .before .before in c .with-box .result ≡ withBox (l .before .loop .rows) (boxIn (route l) (place l))
+unfolding segmentIn
+widened c = let l = c .before .before .before .before .before in c .with-box .ensures ∙ ap (withBox (l .before .loop .rows)) (c .before .edges-bounding-box .ensures ∙ rw (c .before .before .before .before .end-place .ensures))
 
--- src/inner.rt:224:9
-add-k : tie.Need-add-k Inv-loop μ-loop
-add-k c = ?
-
--- src/inner.rt:219:5
-loop-less : tie.Need-loop-less Inv-loop μ-loop
-loop-less c = ?
-
--- src/inner.rt:219:5
 loop-again : tie.Need-loop-again Inv-loop μ-loop
-loop-again c = ?
+loop-again c =
+    let l = c .before .before .before .before .before in
+    (omega arith, (l .before .loop .inv .1 .0, rw (widened c) (left l)))
 
--- src/inner.rt:205:1
 returns : tie.Need-returns Inv-loop μ-loop
-returns c = ?
+unfolding withBoxes
+returns c =
+    let l = c .before in
+    sym (ap (withBoxes (l .loop .rows)) (list-end (boxIn (l .before .before .args .t1)) (l .before .segments-of .result) (l .loop .k) (omega arith))) ∙ l .loop .inv .1 .1
 
 pub rows-of-spec : {M : Type 1} → statement M
 rows-of-spec =
@@ -71,16 +74,16 @@ rows-of-spec =
     (tie.spec
     Inv-loop
     μ-loop
-    segments-of-requires
+    (λ c κs. search needs)
     loop-holds
-    end-place-requires
-    mul-start
-    element-copy-out-start
-    mul-end
-    element-copy-out-end
-    edges-bounding-box-requires
-    with-box-requires
-    add-k
-    loop-less
+    (λ c κs. place-inside (route c .closed) (inner c) .0)
+    (λ c. omega (arith, inside (c .before) .0))
+    (λ c. inside (c .before) .0)
+    (λ c. omega (arith, inside (c .before .before) .1, c .before .end-place .ensures))
+    (λ c. omega (arith, inside (c .before .before) .1, c .before .end-place .ensures))
+    (λ c κs. search needs)
+    (λ c κs. search needs)
+    (λ c. omega (arith, inside (c .before .before .before .before .before) .0))
+    (λ c. omega arith)
     loop-again
     returns)
