@@ -8,7 +8,7 @@ use lib.ListN.{length, replicate}
 use Rattle.shapes.specs.declared.Point.{Point}
 use Rattle.shapes.specs.declared.Line.{Line}
 use Rattle.shapes.specs.declared.Side.the-variants.{Left, Right}
-use Rattle.shapes.specs.Limits.{crossingLimit}
+use Rattle.shapes.specs.Limits.{crossingLimit, cornerLimit, panel}
 use Rattle.shapes.specs.Shape.{LineNear, pointOf, lineOf, delta}
 use Rattle.linear_equation.specs.Equation.{sideAnswer}
 use Rattle.intersection_params.specs.declared.Intersection.{Intersection}
@@ -22,9 +22,10 @@ use Rattle.line_join.specs.declared.Joined.the-variants.{Made}
 use Rattle.line_join.specs.declared.Kind.the-variants.{Miter}
 use Rattle.line_join.specs.Answers.{joinValues, pointsAnswer}
 use Rattle.board.specs.declared.Run.{Run}
+use Rattle.board.specs.declared.Board.{Board}
 use Rattle.board.specs.Runs.{runOf, flat}
 use Rattle.board.specs.Boards.{listed, listedTo}
-use Rattle.board.specs.Histories.{Event, offers, boardAfter}
+use Rattle.board_laws.specs.Histories.{Event, offers, boardAfter}
 
 pub data Case : Type 0 where
   -- two lines and their crossing
@@ -45,15 +46,19 @@ abbrev pub offersOf : List Run → List Event
 offersOf [] = []
 offersOf (r ∷ rs) = offers (record { row = pos 0; start = r .start; end = r .end }) ∷ offersOf rs
 
+-- row 0's board after them
+abbrev pub boardOfRow0 : List Run → Board
+boardOfRow0 rs = boardAfter cornerLimit (pos 0) (offersOf rs)
+
 unfoldable pub Holds : Case → Type 0
 Holds (crossing a b r) = crossingAnswer crossingLimit a b ≡ crossingValues r
 Holds (crossingWithAny a r) =
     (b : Line) → LineNear crossingLimit b → (crossingAnswer crossingLimit a b ≡ crossingValues r) × (crossingAnswer crossingLimit b a ≡ crossingValues r)
 Holds (nearly p q t) =
     (a b : Line) → LineNear crossingLimit a → LineNear crossingLimit b → delta a ≡ p → delta b ≡ q → nearlyAnswer crossingLimit a b ≡ record { refusal = 0; holds = t }
-Holds (joins a b c w o j) = pointsAnswer a b c w o ≡ joinValues (Made j)
+Holds (joins a b c w o j) = pointsAnswer panel a b c w o ≡ joinValues (Made j)
 Holds (board rs listing n) =
-    (listed (boardAfter (pos 0) (offersOf rs)) (2 * length listing) ≡ record { refusal = 0; count = length listing; total = n }) × (listedTo (boardAfter (pos 0) (offersOf rs)) (replicate (2 * length listing) (pos 0)) ≡ flat listing)
+    (listed cornerLimit (boardOfRow0 rs) (2 * length listing) ≡ record { refusal = 0; count = length listing; total = n }) × (listedTo cornerLimit (boardOfRow0 rs) (replicate (2 * length listing) (pos 0)) ≡ flat listing)
 Holds (sides l p left right) =
     (sideAnswer crossingLimit l p Left ≡ record { refusal = 0; holds = left }) × (sideAnswer crossingLimit l p Right ≡ record { refusal = 0; holds = right })
 
