@@ -9,15 +9,16 @@ use Rattle.shapes.specs.declared.Point.{Point}
 use Rattle.shapes.specs.declared.Line.{Line}
 use Rattle.shapes.specs.Limits.{crossingLimit}
 use Rattle.shapes.specs.Shape.{LineNear, pointOf, lineOf, isNear, isLineNear, minus, quarterTurn, determinant, dotProduct, delta}
+use Rattle.shapes.specs.Spans.{isEmpty, isSound as isSpanSound}
 use Rattle.shapes.proofs.Laws.{true-line-near}
 use Rattle.linear_equation.specs.Equation.{equationOf, distanceOf, isOnSide, areInside, sideAnswer}
 use Rattle.intersection_params.specs.declared.Intersection.the-variants.{Colinear}
-use Rattle.intersection_params.specs.Crossing.{cramerOf, solutionOf, sideOf, drawnOf, crossingOf, nearlyColinear, areNear, crossingValues, crossingAnswer}
+use Rattle.intersection_params.specs.Crossing.{cramerOf, solutionOf, sideOf, drawnOf, crossingOf, nearlyColinear, areLinesNear, crossingValues, crossingAnswer}
 use Rattle.intersection_params.specs.Words.{bend}
 use Rattle.intersection_params.proofs.Laws.{determinant-directions, colinear-exactly, crossing-chosen, nearly-chosen}
 use Rattle.board.specs.Runs.{withRun, joined, follows, isAscending, total, flat}
-use Rattle.board.specs.Boards.{live, boardOf, isSound, freshRefusal, begun, isInside, withSpan, offerRefusal, withOffer, offered, listRefusal, listed, over, listedTo}
-use Rattle.board.specs.Histories.{after, reached}
+use Rattle.board.specs.Boards.{live, padded, boardOf, isSound, begun, added, offered, told, listed, over, toldTo, listedTo}
+use Rattle.board_laws.specs.Histories.{after, reached}
 use Rattle.corners.proofs.Legs.{legs-of-216}
 use Rattle.corners.specs.Cases.{nearly, Holds, Every, cases}
 
@@ -49,6 +50,6 @@ unfolding Holds nearlyColinear
 by-deltas p q t e a b ha hb da db = nearly-chosen crossingLimit a b .holds (ha, hb) ∙ simp (determinant-directions a b, da, db, e)
 
 pub corners : Every cases
-unfolding cases Every Holds crossingAnswer crossingValues areNear isLineNear isNear isWithin crossingOf drawnOf sideOf rounded solutionOf cramerOf equationOf determinant dotProduct quarterTurn delta minus sideAnswer areInside isOnSide distanceOf reached after begun offered withOffer withSpan withRun joined isInside follows offerRefusal isSound isAscending live boardOf listed listedTo over flat listRefusal total freshRefusal greater lesser
+unfolding cases Every Holds crossingAnswer crossingValues areLinesNear isLineNear isNear isWithin crossingOf drawnOf sideOf rounded solutionOf cramerOf equationOf determinant dotProduct quarterTurn delta minus sideAnswer areInside isOnSide distanceOf reached after begun offered added withRun joined isEmpty isSpanSound follows isSound isAscending live padded boardOf listed told listedTo toldTo over flat total greater lesser
 corners =
     (refl, (refl, (refl, (refl, (refl, (with-any, (by-deltas _ _ false refl, (by-deltas _ _ true refl, ((refl, refl), ((refl, refl), (legs-of-216, ((refl, refl), ((refl, refl), tt)))))))))))))

@@ -9,8 +9,8 @@ use Rattle.shapes.specs.declared.Line.{Line}
 use Rattle.shapes.specs.declared.Side.the-variants.{Left, Right}
 use Rattle.shapes.specs.declared.Offset.the-variants.{None}
 use Rattle.parallels.specs.declared.Parallel.{Parallel}
-use Rattle.shapes.specs.Strokes.{isThin}
-use Rattle.line_join.specs.Answers.{cornerRefusal, joinRefusal, areNear, joinValues, answerOf, pointsAnswer}
+use Rattle.shapes.specs.Strokes.{isThin, strokeRefusal}
+use Rattle.line_join.specs.Answers.{joinValues, madeOf, answerOf, pointsAnswer}
 use Rattle.line_join.specs.Miter.{miterLimit, reaches}
 use Rattle.line_join.specs.Caps.{isCornersNear, isJoinNear}
 use Rattle.line_join.specs.Join.{meet, overlapping, bentAt, bentOf, startOf, joinOf}
@@ -18,8 +18,8 @@ use Rattle.extents.specs.Edges.{seen, lasts, closed, extentsOf}
 use Rattle.parallels.specs.Parallels.{bent, turnOf, nextParallel, aimed, thickness, planAlong, planOf, startOf as startOf-parallels, isDone, grown, yieldOf, parallelsFrom, spare, parallels, parallelsOf}
 use Rattle.shapes.specs.Shape.{samePoint, pointOf, lineOf, isNear, isLineNear, plus, minus, quarterTurn, determinant, dotProduct, squaredLength, delta}
 use Rattle.bresenham.specs.Walk.{placeOf, directionOf, along, parametersAlong, parametersOf, nextAll, previousAll, increased, decreased}
-use Rattle.intersection_params.specs.Crossing.{cramerOf, solutionOf, sideOf, drawnOf, crossingOf, nearlyColinear, areNear as areNear-intersection-params}
-use Rattle.linear_equation.specs.Equation.{equationOf, distanceOf, isOnSide, areNear as areNear-linear-equation}
+use Rattle.intersection_params.specs.Crossing.{cramerOf, solutionOf, sideOf, drawnOf, crossingOf, nearlyColinear}
+use Rattle.linear_equation.specs.Equation.{equationOf, distanceOf, isOnSide}
 use Rattle.whole.specs.Number.{isWithin}
 use Rattle.whole.specs.Rounded.{rounded}
 use Rattle.corners.specs.Cases.{Holds, legsOf216}
@@ -63,5 +63,5 @@ unfolding seen lasts closed extentsOf bent turnOf nextParallel samePoint aimed t
 second-edges = rw second-parallels
 
 pub legs-of-216 : Holds legsOf216
-unfolding Holds legsOf216 inputRefusal cornerRefusal joinRefusal areNear joinValues answerOf pointsAnswer isThin miterLimit reaches isCornersNear isJoinNear meet overlapping bentAt bentOf startOf joinOf cramerOf solutionOf sideOf drawnOf crossingOf nearlyColinear areNear-intersection-params equationOf distanceOf isOnSide areNear-linear-equation isNear isLineNear plus minus quarterTurn determinant dotProduct squaredLength delta isWithin rounded
+unfolding Holds legsOf216 joinValues madeOf answerOf pointsAnswer isThin strokeRefusal miterLimit reaches isCornersNear isJoinNear meet overlapping bentAt bentOf startOf joinOf cramerOf solutionOf sideOf drawnOf crossingOf nearlyColinear equationOf distanceOf isOnSide isNear isLineNear plus minus quarterTurn determinant dotProduct squaredLength delta isWithin rounded
 legs-of-216 = rw (first-edges, second-edges)

@@ -1,4 +1,4 @@
--- 01, "Corners with numbers": the cases marked P, in one list, and what each of them says of the entries' answers.
+-- What a case with numbers says of the entries' answers; and 01, "Corners with numbers": the cases marked P, in one list.
 use mathlib.Core.Path.{_≡_}
 use mathlib.Core.Bool.{Bool, true, false}
 use mathlib.Core.List.{List, [], _∷_}
@@ -8,7 +8,7 @@ use lib.ListN.{length, replicate}
 use Rattle.shapes.specs.declared.Point.{Point}
 use Rattle.shapes.specs.declared.Line.{Line}
 use Rattle.shapes.specs.declared.Side.the-variants.{Left, Right}
-use Rattle.shapes.specs.Limits.{crossingLimit}
+use Rattle.shapes.specs.Limits.{pointLimit, crossingLimit, cornerLimit, panel}
 use Rattle.shapes.specs.Shape.{LineNear, pointOf, lineOf, delta}
 use Rattle.linear_equation.specs.Equation.{sideAnswer}
 use Rattle.intersection_params.specs.declared.Intersection.{Intersection}
@@ -16,15 +16,25 @@ use Rattle.intersection_params.specs.declared.Intersection.the-variants.{At, Co
 use Rattle.intersection_params.specs.Crossing.{crossingValues, crossingAnswer, nearlyAnswer}
 use Rattle.shapes.specs.declared.Offset.{Offset}
 use Rattle.shapes.specs.declared.Offset.the-variants.{None}
+use Rattle.parallels.specs.declared.Parallel.{Parallel}
+use Rattle.parallels.specs.Parallels.{parallelsOf}
+use Rattle.extents.specs.declared.Edges.{Edges}
+use Rattle.extents.specs.Entry.{accepted, answerOf as extentsAnswer}
 use Rattle.line_join.specs.declared.Corners.{Corners}
 use Rattle.line_join.specs.declared.Join.{Join}
 use Rattle.line_join.specs.declared.Joined.the-variants.{Made}
 use Rattle.line_join.specs.declared.Kind.the-variants.{Miter}
 use Rattle.line_join.specs.Answers.{joinValues, pointsAnswer}
+use Rattle.thick_segment.specs.declared.Segment.{Segment}
+use Rattle.route_joins.specs.declared.Step.the-variants.{Drawn, End}
+use Rattle.route_joins.specs.Steps.{stepValues}
+use Rattle.closed_thick_segment_iter.specs.declared.Walk.{Walk}
+use Rattle.closed_thick_segment_iter.specs.Walks.{closedStart, closedStep, afterClosed}
 use Rattle.board.specs.declared.Run.{Run}
+use Rattle.board.specs.declared.Board.{Board}
 use Rattle.board.specs.Runs.{runOf, flat}
 use Rattle.board.specs.Boards.{listed, listedTo}
-use Rattle.board.specs.Histories.{Event, offers, boardAfter}
+use Rattle.board_laws.specs.Histories.{Event, offers, boardAfter}
 
 pub data Case : Type 0 where
   -- two lines and their crossing
@@ -39,11 +49,24 @@ pub data Case : Type 0 where
   board : List Run → List Run → ℤ → Case
   -- a line and a point, and whether the point is on the left, and on the right
   sides : Line → Point → Bool → Bool → Case
+  -- a line and a width, and its parallels and its edges
+  stroked : Line → ℤ → List Parallel → Edges → Case
+  -- the coordinates of a closed route and a width, and its segments
+  closed : List ℤ → ℤ → List Segment → Case
 
 -- offers to row 0, one after the other
 abbrev pub offersOf : List Run → List Event
 offersOf [] = []
 offersOf (r ∷ rs) = offers (record { row = pos 0; start = r .start; end = r .end }) ∷ offersOf rs
+
+-- row 0's board after them
+abbrev pub boardOfRow0 : List Run → Board
+boardOfRow0 rs = boardAfter cornerLimit (pos 0) (offersOf rs)
+
+-- a closed walk's steps answer these segments in turn, and then the end
+unfoldable pub Walks : List ℤ → Walk → List Segment → Type 0
+Walks cs walk [] = closedStep panel cs walk ≡ stepValues End
+Walks cs walk (s ∷ ss) = (closedStep panel cs walk ≡ stepValues (Drawn s)) × Walks cs (afterClosed panel cs walk) ss
 
 unfoldable pub Holds : Case → Type 0
 Holds (crossing a b r) = crossingAnswer crossingLimit a b ≡ crossingValues r
@@ -51,11 +74,13 @@ Holds (crossingWithAny a r) =
     (b : Line) → LineNear crossingLimit b → (crossingAnswer crossingLimit a b ≡ crossingValues r) × (crossingAnswer crossingLimit b a ≡ crossingValues r)
 Holds (nearly p q t) =
     (a b : Line) → LineNear crossingLimit a → LineNear crossingLimit b → delta a ≡ p → delta b ≡ q → nearlyAnswer crossingLimit a b ≡ record { refusal = 0; holds = t }
-Holds (joins a b c w o j) = pointsAnswer a b c w o ≡ joinValues (Made j)
+Holds (joins a b c w o j) = pointsAnswer panel a b c w o ≡ joinValues (Made j)
 Holds (board rs listing n) =
-    (listed (boardAfter (pos 0) (offersOf rs)) (2 * length listing) ≡ record { refusal = 0; count = length listing; total = n }) × (listedTo (boardAfter (pos 0) (offersOf rs)) (replicate (2 * length listing) (pos 0)) ≡ flat listing)
+    (listed cornerLimit (boardOfRow0 rs) (2 * length listing) ≡ record { refusal = 0; count = length listing; total = n }) × (listedTo cornerLimit (boardOfRow0 rs) (replicate (2 * length listing) (pos 0)) ≡ flat listing)
 Holds (sides l p left right) =
     (sideAnswer crossingLimit l p Left ≡ record { refusal = 0; holds = left }) × (sideAnswer crossingLimit l p Right ≡ record { refusal = 0; holds = right })
+Holds (stroked l w ps e) = (parallelsOf l w None ≡ ps) × (extentsAnswer pointLimit l w None ≡ accepted e)
+Holds (closed cs w ss) = (closedStart pointLimit cs w None .refusal ≡ 0) × Walks cs (closedStart pointLimit cs w None .walk) ss
 
 -- each case of a list holds
 unfoldable pub Every : List Case → Type 0
@@ -63,7 +88,7 @@ Every [] = Unit
 Every (c ∷ cs) = Holds c × Every cs
 
 -- the line from (x, y) to (u, v)
-abbrev line : ℤ → ℤ → ℤ → ℤ → Line
+abbrev pub line : ℤ → ℤ → ℤ → ℤ → Line
 line x y u v = lineOf (pointOf x y) (pointOf u v)
 
 -- the columns from s to e, e not included

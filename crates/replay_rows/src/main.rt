@@ -4,8 +4,8 @@
 ghost use Prim.Native.Nat.{_≤_};
 ghost use lib.ListN.{length};
 use libc::STDIN_FILENO;
-use replay_text::after;
-use text::byte_at;
+use test_numbers::byte_at;
+use test_text::after;
 
 fn main() {
     let mut lines = [0u8; 524288];
@@ -17,7 +17,7 @@ fn print_all(lines: &[u8]) {
     let mut at = 0;
     while at < lines.len() {
         print_line(lines, at);
-        at = text::skip_past(lines, at, b'\n');
+        at = test_numbers::skip_past(lines, at, b'\n');
     }
 }
 

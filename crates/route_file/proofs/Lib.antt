@@ -1,4 +1,5 @@
 pub mod Answering
+pub mod Entries
 pub mod Laws
 pub mod Printed
 pub mod Reading

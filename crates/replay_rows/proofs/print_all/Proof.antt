@@ -2,7 +2,7 @@
 use Prim.Native.Nat.{_-_}
 use native.Mathlib.Omega.{arith}
 use lib.ListN.{length}
-use Rattle.text.proofs.Laws.{skip-later}
+use Rattle.test_numbers.proofs.Laws.{skip-later}
 use borrow.Author.Needs.{needs}
 use Rattle.replay_rows.proofs.print_all.Statement.{statement}
 use Rattle.replay_rows.proofs.print_all.Tie as tie

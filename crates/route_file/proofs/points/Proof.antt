@@ -8,7 +8,7 @@ use borrow.Author.Tests.{not-true, not-false}
 use denote.Ref.{now}
 use lib.Seq.{sets}
 use Rattle.route_file.specs.Numbers.{signedFrom}
-use Rattle.route_file.specs.Form.{routeCount, isFormed, Formed}
+use Rattle.route_file.specs.Form.{routeCount, entryAt, isFormed, Formed}
 use Rattle.route_file.proofs.Laws.{true-formed}
 use Rattle.route_file.proofs.Answering.{answer, points-nine, points-none, points-short, points-all}
 use Rattle.route_file.proofs.points.Statement.{statement}
@@ -43,6 +43,10 @@ entry-at-requires c κs = omega (arith, formed (c .before .before) .entries, c .
 known : (c : tie.Else2) → c .before .before .before .before .before .args .k < routeCount (c .before .before .before .before .before .args .file .now)
 known c = rw (c .before .count-of .ensures) at (c .if2 .left)
 
+-- the points that the entry says
+said : (c : tie.After-entry-at) → let a = c .before .before .before .before .before .before .args in c .entry-at .result .points ≡ entryAt (a .file .now) (a .k) .points
+said c = ap (λ e. e .points) (c .entry-at .ensures)
+
 cast-count : tie.Need-cast-count
 cast-count c = search needs
 
@@ -53,7 +57,7 @@ returns-3 : tie.Need-returns-3
 returns-3 c =
     let e = c .before .before in
     let a = e .before .before .before .before .before .before .args in
-    points-short (a .file .now) (a .k) (now (a .out)) (passed (e .before .before .before)) (known (e .before)) (rw (e .entry-at .ensures) at (c .if3 .taken))
+    points-short (a .file .now) (a .k) (now (a .out)) (passed (e .before .before .before)) (known (e .before)) (omega (arith, said e, c .if3 .taken))
 
 cast-write-numbers : tie.Need-cast-write-numbers
 cast-write-numbers c = search needs
@@ -62,7 +66,7 @@ write-numbers-requires : tie.Need-write-numbers-requires
 write-numbers-requires c κs =
     let e = c .before .before .before .before in
     let a = e .before .before .before .before .before .before .args in
-    rw (e .entry-at .ensures) (omega (arith, formed (e .before .before .before) .each (a .k) (known (e .before))), rw (e .entry-at .ensures) at (c .before .before .if3 .left))
+    rw (e .entry-at .ensures) (omega (arith, formed (e .before .before .before) .each (a .k) (known (e .before))), omega (arith, said e, c .before .before .if3 .left))
 
 same-length : tie.Need-same-length
 same-length c = search needs
@@ -72,9 +76,9 @@ returns-4 c =
     let w = c .before in
     let e = w .before .before .before .before .before in
     let a = e .before .before .before .before .before .before .args in
-    let all = points-all (a .file .now) (a .k) (now (a .out)) (passed (e .before .before .before)) (known (e .before)) (rw (e .entry-at .ensures) at (w .before .before .before .if3 .left)) in (
-      ap (λ said. answer 0 (2 * said .points)) (e .entry-at .ensures) ∙ all .0,
-      w .write-numbers .ensures ∙ (ap (λ said. sets (now (a .out)) 0 (signedFrom (a .file .now) (said .offset) (2 * said .points))) (e .entry-at .ensures) ∙ all .1),
+    let all = points-all (a .file .now) (a .k) (now (a .out)) (passed (e .before .before .before)) (known (e .before)) (omega (arith, said e, w .before .before .before .if3 .left)) in (
+      ap (λ m. answer 0 (2 * m .points)) (e .entry-at .ensures) ∙ all .0,
+      w .write-numbers .ensures ∙ (ap (λ m. sets (now (a .out)) 0 (signedFrom (a .file .now) (m .offset) (2 * m .points))) (e .entry-at .ensures) ∙ all .1),
     )
 
 pub points-spec : {M : Type 1} → statement M

@@ -1,8 +1,9 @@
 -- `route_file::inner::is_formed` meets its contract: its tests are those of the definition, in their order. Assumes nothing.
 use borrow.Author.Needs.{needs}
-use mathlib.Core.Path.{_≡_, sym, ap, _∙_}
+use mathlib.Core.Path.{_≡_, ap, _∙_}
 use mathlib.Core.Bool.{true}
 use Prim.Native.Nat.{_+_, _*_}
+use native.Mathlib.Omega.{arith}
 use borrow.Author.Tests.{le-leb, lt-leb, eq-eqb, ne-eqb}
 use lib.Dec.{leb, eqb}
 use lib.ListN.{length}
@@ -12,13 +13,13 @@ use Rattle.route_file.proofs.inner.is_formed.Tie as tie
 
 returns : tie.Need-returns
 unfolding isFormed
-returns c = rw (lt-leb 4 _ (c .if1 .taken))
+returns c = rw (lt-leb 4 (length (c .before .before .args .file .now)) (omega (arith, c .if1 .taken)))
 
 count-of-requires : tie.Need-count-of-requires
 count-of-requires c κs = search needs
 
 header : (c : tie.Else1) → leb 4 (length (c .before .before .args .file .now)) ≡ true
-header c = le-leb 4 (length (c .before .before .args .file .now)) (c .if1 .left)
+header c = le-leb 4 (length (c .before .before .args .file .now)) (omega (arith, c .if1 .left))
 
 returns-2 : tie.Need-returns-2
 unfolding isFormed
@@ -45,12 +46,12 @@ unfolding isFormed
 returns-3 c =
     let p = c .before in
     let f = p .before .before .before .before .before .args .file .now in
-    rw (header (p .before .before .before), few (p .before), ne-eqb (saidLength f) (length f) (λ e. c .if3 .taken (said-by p ∙ e)))
+    rw (header (p .before .before .before), few (p .before), ne-eqb (saidLength f) (length f) (λ e. c .if3 .taken (omega (arith, said-by p, e))))
 
 said : (c : tie.Else3) → let f = c .before .before .before .before .before .before .args .file .now in eqb (saidLength f) (length f) ≡ true
 said c =
     let f = c .before .before .before .before .before .before .args .file .now in
-    eq-eqb (saidLength f) (length f) (sym (said-by (c .before)) ∙ c .if3 .left)
+    eq-eqb (saidLength f) (length f) (omega (arith, said-by (c .before), c .if3 .left))
 
 mul-end : tie.Need-mul-end
 mul-end c = search needs

@@ -1,4 +1,5 @@
 -- `route_file::inner::signed_at` meets its contract. Assumes nothing.
+use native.Mathlib.Omega.{arith}
 use borrow.Author.Needs.{needs}
 use borrow.Author.Tests.{le-ltb, lt-ltb}
 use lib.IntN.{pos}
@@ -19,7 +20,7 @@ cast-result c = search needs
 
 returns : tie.Need-returns
 unfolding signed
-returns c = let e = c .before .number-at .ensures in rw (held (c .before) .is, ← e, lt-ltb _ _ (c .if1 .taken))
+returns c = let e = c .before .number-at .ensures in rw (held (c .before) .is, ← e, lt-ltb (c .before .number-at .result) 32768 (omega (arith, c .if1 .taken)))
 
 cast-result-2 : tie.Need-cast-result-2
 cast-result-2 c = search needs
@@ -29,7 +30,7 @@ sub-result c = fits-sub (held (c .before)) (literal 65536 tt) tt
 
 returns-2 : tie.Need-returns-2
 unfolding signed
-returns-2 c = let e = c .before .number-at .ensures in rw (hold-sub (held (c .before)) (literal 65536 tt) tt .is, ← e, le-ltb _ _ (c .if1 .left))
+returns-2 c = let e = c .before .number-at .ensures in rw (hold-sub (held (c .before)) (literal 65536 tt) tt .is, ← e, le-ltb (c .before .number-at .result) 32768 (omega (arith, c .if1 .left)))
 
 pub signed-at-spec : {M : Type 1} → statement M
 signed-at-spec =

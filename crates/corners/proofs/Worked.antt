@@ -1,0 +1,28 @@
+-- The cases worked out by hand hold, by computation. Assumes nothing.
+use mathlib.Core.Path.{refl}
+use Rattle.whole.specs.Number.{isWithin}
+use Rattle.whole.specs.Rounded.{rounded}
+use Rattle.shapes.specs.Shape.{samePoint, isNear, isLineNear, plus, minus, quarterTurn, determinant, dotProduct, squaredLength, delta}
+use Rattle.shapes.specs.Strokes.{isThin, strokeRefusal}
+use Rattle.linear_equation.specs.Equation.{equationOf, distanceOf, isOnSide}
+use Rattle.intersection_params.specs.Crossing.{cramerOf, solutionOf, sideOf, drawnOf, crossingOf, nearlyColinear}
+use Rattle.bresenham.specs.Walk.{directionOf, along, parametersAlong, nextAll, previousAll, increased, decreased}
+use Rattle.parallels.specs.Parallels.{bent, turnOf, nextParallel, aimed, thickness, planAlong, planOf, startOf as startOf-parallels, isDone, grown, yieldOf, parallelsFrom, spare, parallels, parallelsOf}
+use Rattle.extents.specs.Edges.{seen, lasts, closed, extentsOf}
+use Rattle.extents.specs.Entry.{answerOf as extentsAnswer}
+use Rattle.line_join.specs.Answers.{joinValues, madeOf, answerOf, pointsAnswer}
+use Rattle.line_join.specs.Miter.{miterLimit, reaches}
+use Rattle.line_join.specs.Caps.{isCornersNear, isJoinNear}
+use Rattle.line_join.specs.Join.{meet, overlapping, bentAt, bentOf, startOf, joinOf}
+use Rattle.thick_segment.specs.Segments.{isSegmentNear}
+use Rattle.coordinates.specs.Points.{pointAt, pointCount, placeAfter, placeBefore}
+use Rattle.coordinates.specs.Refusal.{isOdd, isMiscounted, areWithin, routeRefusal}
+use Rattle.route_joins.specs.Joins.{bendAt, closedJoin, joinOn, endPlace, segmentsOf, segmentOf, segmentCount}
+use Rattle.route_joins.specs.Steps.{stepValues, checked, stepAt, routeStep, placeFrom}
+use Rattle.closed_thick_segment_iter.specs.Walks.{closedStart, closedStep, afterClosed}
+use Rattle.corners.specs.Cases.{Walks, Holds, Every}
+use Rattle.corners.specs.Worked.{evenWidth, oddWidth, turnedRound, bevelLeft, bevelRight, degenerate, outAndBack, worked}
+
+pub worked-hold : Every worked
+unfolding Every Holds worked evenWidth oddWidth turnedRound bevelLeft bevelRight degenerate outAndBack Walks closedStart closedStep afterClosed routeStep stepAt checked stepValues placeFrom isSegmentNear segmentCount segmentOf segmentsOf endPlace joinOn closedJoin bendAt routeRefusal areWithin isMiscounted isOdd pointAt pointCount placeAfter placeBefore joinValues madeOf answerOf pointsAnswer isJoinNear isCornersNear joinOf startOf bentOf bentAt overlapping meet reaches miterLimit crossingOf nearlyColinear drawnOf sideOf solutionOf cramerOf equationOf distanceOf isOnSide rounded quarterTurn determinant extentsAnswer extentsOf closed lasts seen parallelsOf parallels spare parallelsFrom yieldOf grown isDone startOf-parallels planOf planAlong thickness aimed nextParallel turnOf bent increased decreased nextAll previousAll parametersAlong along directionOf strokeRefusal isThin isLineNear isNear isWithin samePoint plus minus dotProduct squaredLength delta
+worked-hold = ((refl, refl), ((refl, refl), ((refl, refl), (refl, (refl, (refl, ((refl, (refl, (refl, refl))), tt)))))))

@@ -1,0 +1,104 @@
+-- Cases worked out by hand from 01's rules W1 to W5 and its module 4, in one list: what the P cases leave to definitions.
+use mathlib.Core.Bool.{true, false}
+use mathlib.Core.List.{List, [], _∷_}
+use lib.IntN.{ℤ, pos, negsuc}
+use Rattle.shapes.specs.declared.Point.{Point}
+use Rattle.shapes.specs.declared.Side.{Side}
+use Rattle.shapes.specs.declared.Side.the-variants.{Left, Right}
+use Rattle.shapes.specs.declared.Offset.the-variants.{None}
+use Rattle.shapes.specs.Shape.{pointOf}
+use Rattle.bresenham.specs.Walk.{placeOf}
+use Rattle.parallels.specs.declared.Parallel.{Parallel}
+use Rattle.line_join.specs.declared.Join.{Join}
+use Rattle.line_join.specs.declared.Kind.the-variants.{Bevel, Degenerate, Colinear, Start}
+use Rattle.line_join.specs.Join.{cornersOf, alike}
+use Rattle.corners.specs.Cases.{Case, joins, stroked, closed, line}
+
+-- a parallel's side, first point and error
+abbrev normal : Side → ℤ → ℤ → ℤ → Parallel
+normal s x y e = record { side = s; start = placeOf (pointOf x y) e; extra = false }
+
+abbrev extra : Side → ℤ → ℤ → ℤ → Parallel
+extra s x y e = record { side = s; start = placeOf (pointOf x y) e; extra = true }
+
+-- (0,0)-(3,1) at width 4. Along the line a = 3, b = 1: major (1,0), minor (0,1), 2b = 2, 2a = 6. Its perpendicular has the delta (1,-3): major
+-- (0,-1), minor (1,0), and the same numbers; its minor is not the line's major turned round, so errors rise on the left and fall on the
+-- right. The accumulator starts at (6+2)/2 = 4, the threshold is 8² · 10 = 640. The left side skips (0,0), and is at (0,-1) with error 2.
+--   right  (0,0)   0 > -3: Normal, error 0; then (0,1) with -2.     Accumulator 10, square 100
+--   left   (0,-1)  2 ≤ 3: Normal, error 0; then (0,-2) with 4.      16, 256
+--   right  (0,1)   -2 > -3: Normal, error 0; then (0,2) with -4.    22, 484
+--   left   (0,-2)  4 > 3: Extra; 0 + 2 = 2 is not above 3: no carry, passed over; then (1,-2) with -2
+--          (1,-2)  -2 ≤ 3: Normal, error 2.                         28, 784 > 640: the end
+-- The edges begin at the last of each side, and both are Normal: (1,-2) + (3,1) = (4,-1) and (0,1) + (3,1) = (3,2).
+unfoldable pub evenWidth : Case
+evenWidth =
+    stroked (line (pos 0) (pos 0) (pos 3) (pos 1)) (pos 4)
+    (normal Right (pos 0) (pos 0) (pos 0) ∷ normal Left (pos 0) (negsuc 0) (pos 0) ∷ normal Right (pos 0) (pos 1) (pos 0) ∷ normal Left (pos 1) (negsuc 1) (pos 2) ∷ [])
+    (record { left = line (pos 1) (negsuc 1) (pos 4) (negsuc 0); right = line (pos 0) (pos 1) (pos 3) (pos 2) })
+
+-- (0,0)-(3,2) at width 3. a = 3, b = 2: 2b = 4, 2a = 6, the same steps as above. Accumulator (6+4)/2 = 5, threshold 6² · 13 = 468. The left
+-- side skips (0,0), and is at (0,-1) with error 4.
+--   right  (0,0)   0 > -3: Normal, error 0; then (0,1) with -4.                                  Accumulator 11, square 121
+--   left   (0,-1)  4 > 3: Extra; 0 + 4 is above 3: -2 and a carry, error -2; then (1,-1) with -2.  15, 225
+--   right  (0,1)   -4 ≤ -3: Extra; 0 - 4 ≤ -3: 2 and a carry, error 0 as it was before it fell.    19, 361
+--   left   (1,-1)  -2 ≤ 3: Normal, error -2.                                                       25, 625 > 468: the end
+-- The left edge ends at (1,-1) + (3,2) = (4,1), the right one, being Extra, at (0,1) + (3,2) - (1,0) - (0,1) = (2,2).
+unfoldable pub oddWidth : Case
+oddWidth =
+    stroked (line (pos 0) (pos 0) (pos 3) (pos 2)) (pos 3)
+    (normal Right (pos 0) (pos 0) (pos 0) ∷ extra Left (pos 0) (negsuc 0) (negsuc 1) ∷ extra Right (pos 0) (pos 1) (pos 0) ∷ normal Left (pos 1) (negsuc 0) (negsuc 1) ∷ [])
+    (record { left = line (pos 1) (negsuc 0) (pos 4) (pos 1); right = line (pos 0) (pos 1) (pos 2) (pos 2) })
+
+-- (0,0)-(-3,2) at width 3. The line's major is (-1,0), the perpendicular's delta (2,3): major (0,1), minor (1,0), the line's major turned
+-- round. So errors fall on the left and rise on the right; else as before. The left side begins at (0,1) with error 4.
+--   right  (0,0)   Normal, error 0; then (0,-1) with -4.                                11, 121
+--   left   (0,1)   4 > 3: Extra; 0 - 4 ≤ -3: 2 and a carry, error 0; then (1,1) with -2.  15, 225
+--   right  (0,-1)  -4 ≤ -3: Extra; 0 + 4 > 3: -2 and a carry, error -2.                   19, 361
+--   left   (1,1)   Normal, error 2.                                                       25, 625
+-- Left edge to (1,1) + (-3,2) = (-2,3); right edge to (0,-1) + (-3,2) - (-1,0) - (0,1) = (-2,0).
+unfoldable pub turnedRound : Case
+turnedRound =
+    stroked (line (pos 0) (pos 0) (negsuc 2) (pos 2)) (pos 3)
+    (normal Right (pos 0) (pos 0) (pos 0) ∷ extra Left (pos 0) (pos 1) (pos 0) ∷ extra Right (pos 0) (negsuc 0) (negsuc 1) ∷ normal Left (pos 1) (pos 1) (pos 2) ∷ [])
+    (record { left = line (pos 1) (pos 1) (negsuc 1) (pos 3); right = line (pos 0) (negsuc 0) (negsuc 1) (pos 0) })
+
+-- ---- joins at width 3: three Normal parallels, so that the edges are one pixel to either side along the line's minor axis
+
+-- (0,0), (6,0), (-3,3). First edges: left (0,-1)-(6,-1), right (0,1)-(6,1); second: left (6,1)-(-3,4), right (6,-1)-(-3,2). The left ones
+-- cross at (12,-1), the right ones at (0,1). Determinant (-9)·0 - 3·6 = -18: Left is the outer side; 18² is not below the dot product
+-- 54. (-3,2) is on the right of y = 1: no overlap. (12,-1) is 6²+1² = 37 from (6,0), above 6² = 36: cut at (6,-1) and (6,1).
+unfoldable pub bevelLeft : Case
+bevelLeft =
+    joins (pointOf (pos 0) (pos 0)) (pointOf (pos 6) (pos 0)) (pointOf (negsuc 2) (pos 3)) (pos 3) None
+    (record { kind = Bevel Left; ending = cornersOf (pointOf (pos 6) (negsuc 0)) (pointOf (pos 0) (pos 1)); starting = cornersOf (pointOf (pos 6) (pos 1)) (pointOf (pos 0) (pos 1)) })
+
+-- (0,0), (6,0), (-3,-3). Second edges: left (6,1)-(-3,-2), right (6,-1)-(-3,-4). Crossings (0,-1) and (12,1), determinant 18: Right.
+-- (-3,-2) is on the left of y = -1: no overlap. (12,1) is 37 from (6,0): cut at (6,1) and (6,-1).
+unfoldable pub bevelRight : Case
+bevelRight =
+    joins (pointOf (pos 0) (pos 0)) (pointOf (pos 6) (pos 0)) (pointOf (negsuc 2) (negsuc 2)) (pos 3) None
+    (record { kind = Bevel Right; ending = cornersOf (pointOf (pos 0) (negsuc 0)) (pointOf (pos 6) (pos 1)); starting = cornersOf (pointOf (pos 0) (negsuc 0)) (pointOf (pos 6) (negsuc 0)) })
+
+-- (0,0), (4,0), (-2,1). Second edges: left (4,1)-(-2,2), right (4,-1)-(-2,0). Determinant -4: Left; 16 is below the dot product 24, so
+-- both crossings are replaced by the first edges' ends. (-2,0) is on the left of y = 1: overlap. The edges end and start where they are.
+unfoldable pub degenerate : Case
+degenerate =
+    joins (pointOf (pos 0) (pos 0)) (pointOf (pos 4) (pos 0)) (pointOf (negsuc 1) (pos 1)) (pos 3) None
+    (record { kind = Degenerate Left; ending = cornersOf (pointOf (pos 4) (negsuc 0)) (pointOf (pos 4) (pos 1)); starting = cornersOf (pointOf (pos 4) (pos 1)) (pointOf (pos 4) (negsuc 0)) })
+
+-- ---- a closed route of two points, (0,0) and (4,0), at width 3: out and back
+
+-- the first join is the start of (0,0)-(4,0)
+abbrev out : Join
+out = alike Start (cornersOf (pointOf (pos 0) (negsuc 0)) (pointOf (pos 0) (pos 1)))
+
+-- the second is that of (0,0), (4,0), (0,0), whose determinant is 0. The way back has its left at y = 1
+abbrev back : Join
+back = record { kind = Colinear; ending = cornersOf (pointOf (pos 4) (negsuc 0)) (pointOf (pos 4) (pos 1)); starting = cornersOf (pointOf (pos 4) (pos 1)) (pointOf (pos 4) (negsuc 0)) }
+
+-- two segments
+unfoldable pub outAndBack : Case
+outAndBack = closed (pos 0 ∷ pos 0 ∷ pos 4 ∷ pos 0 ∷ []) (pos 3) (record { start = out; end = back } ∷ record { start = back; end = out } ∷ [])
+
+unfoldable pub worked : List Case
+worked = evenWidth ∷ oddWidth ∷ turnedRound ∷ bevelLeft ∷ bevelRight ∷ degenerate ∷ outAndBack ∷ []

@@ -1,0 +1,143 @@
+//! Steps sample routes in place, from the first segment to the end and once more. A line tells what a step answers, behind the place
+//! that it leaves its walk at: of a segment the right edge, the left edge, and the start and end of its span on one row. The spans
+//! of a route go to a board of that row, whose runs are then listed to twelve numbers and to four records. The last walk is refused.
+mod owners; // owners.rt: owners that lend what is worked on in place
+
+use board::Board;
+use board::Run;
+use route_joins::Step;
+use shapes::Offset;
+use test_text::say_line;
+use test_text::say_numbers;
+use thick_segment::Segment;
+use writing::say;
+use writing::say_count;
+use writing::say_next;
+use writing::say_refused;
+
+// Shows a segment, and offers its span on the board's row to the board.
+fn draw(segment: Segment, board: Board) -> Board {
+    let edges = thick_segment::edges(segment).edges;
+    say_line(edges.right);
+    say(b" ");
+    say_line(edges.left);
+    let span = thick_segment::span(segment, board.row).span;
+    say_next(span.start);
+    say_next(span.end);
+    board::offer(board, span).board
+}
+
+// A step's line, and the board after it.
+fn show(place: usize, step: Step, board: Board) -> Board {
+    say_count(place as u64);
+    say(b" ");
+    let after = match step {
+        Step::Drawn(segment) => draw(segment, board),
+        Step::End => {
+            say(b"end");
+            board
+        }
+        Step::Refused(number) => {
+            say_refused(number);
+            board
+        }
+    };
+    say(b"\n");
+    after
+}
+
+fn say_records(records: [Run; 4]) {
+    let mut i: usize = 0;
+    while i < 4 {
+        let run = records[i];
+        say_next(run.start);
+        say_next(run.end);
+        i += 1;
+    }
+}
+
+// The board's line: refusal, runs and columns, then the numbers, which were -7, and the records, which were -8 to -9.
+fn list(board: Board) {
+    let lists = owners::list(board, [-7; 12], [Run { start: -8, end: -9 }; 4]);
+    let listed = lists.listed;
+    let numbers = lists.numbers;
+    let records = lists.records;
+    say_count(listed.refusal);
+    say(b" ");
+    say_count(listed.count as u64);
+    say_next(listed.total);
+    say(b" |");
+    say_numbers(&numbers);
+    say(b" |");
+    say_records(records);
+    say(b"\n");
+}
+
+// `steps` steps of an open walk, and the listing.
+fn walk_open(coordinates: &[i64], start: thick_segment_iter::Walk, row: i64, steps: usize) {
+    let mut walk = start;
+    let mut board = board::fresh(row).board;
+    let mut left = steps;
+    while 0 < left {
+        let stepped = owners::open_step(coordinates, walk);
+        let step = stepped.step;
+        walk = stepped.walk;
+        board = show(walk.place, step, board);
+        left -= 1;
+    }
+    list(board);
+}
+
+// `steps` steps of a closed walk, and the listing.
+fn walk_closed(
+    coordinates: &[i64],
+    start: closed_thick_segment_iter::Walk,
+    row: i64,
+    steps: usize,
+) {
+    let mut walk = start;
+    let mut board = board::fresh(row).board;
+    let mut left = steps;
+    while 0 < left {
+        let stepped = owners::closed_step(coordinates, walk);
+        let step = stepped.step;
+        walk = stepped.walk;
+        board = show(walk.place, step, board);
+        left -= 1;
+    }
+    list(board);
+}
+
+// An open walk from its start on, for each of its segments and twice at the end.
+fn open_route(coordinates: &[i64], width: i64, row: i64) {
+    let walk = thick_segment_iter::start(coordinates, width).walk;
+    walk_open(coordinates, walk, row, coordinates.len() / 2 + 1);
+}
+
+// A closed walk likewise.
+fn closed_route(coordinates: &[i64], width: i64, offset: Offset, row: i64) {
+    let walk = closed_thick_segment_iter::start(coordinates, width, offset).walk;
+    walk_closed(coordinates, walk, row, coordinates.len() / 2 + 2);
+}
+
+// A walk that is refused stays where it is.
+fn refused_walk(coordinates: &[i64]) {
+    walk_open(
+        coordinates,
+        thick_segment_iter::Walk {
+            place: 2,
+            width: 65,
+        },
+        20,
+        2,
+    );
+}
+
+fn main() {
+    let zigzag = [0i64, 0, 10, 40, 20, 0, 30, 40, 40, 0, 50, 40];
+    open_route(&zigzag[..10], 3, 20);
+    open_route(&zigzag[..10], 7, 3);
+    closed_route(&zigzag, 3, Offset::Left, 20);
+    closed_route(&zigzag[..6], 5, Offset::Right, 11);
+    refused_walk(&zigzag);
+}
