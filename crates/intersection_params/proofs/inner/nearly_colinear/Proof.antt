@@ -1,9 +1,7 @@
-use mathlib.Core.Path.{_≡_, ap, _∙_}
+use mathlib.Core.Path.{_∙_}
 use Prim.Native.Nat.{_^_}
 use borrow.Author.Needs.{needs}
 use lib.Dec.{lit≤}
-use lib.IntN.{ℤ, pos, natAbs}
-use lib.Signed.{ltZ}
 use mir.Facts.{toZ-ofZ}
 use mir.Syntax.{w64}
 use mir.Val.{ofZ}
@@ -15,9 +13,6 @@ use Rattle.intersection_params.specs.Crossing.{solutionOf, nearlyColinea
 use Rattle.intersection_params.proofs.Room.{solution-roomy}
 use Rattle.intersection_params.proofs.inner.nearly_colinear.Statement.{statement}
 use Rattle.intersection_params.proofs.inner.nearly_colinear.Tie as tie
-
-both : {x y u v : ℤ} → x ≡ u → y ≡ v → ltZ x y ≡ ltZ u v
-both p q = cc
 
 determinant : (c : tie.After-solve) → Hold (ofZ w64 (c .solve .result .determinant)) (solutionOf (c .before .args .first) (c .before .args .second) .determinant) (2 ^ 31)
 determinant c = rw (c .solve .ensures) (hold (solution-roomy (c .before .pre .0) (c .before .pre .1) .determinant-within) tt)
@@ -44,7 +39,7 @@ returns : tie.Need-returns
 unfolding nearlyColinear
 returns c =
     let d = determinant (c .before .before .before .before .before) in
-    both (hold-mul d d tt .is) (toZ-ofZ {w = w64} {z = c .magnitude .result} (search needs) ∙ c .magnitude .ensures ∙ ap (λ z. pos (natAbs z)) (dot (c .before) .is))
+    cc (hold-mul d d tt .is, toZ-ofZ {w = w64} {z = c .magnitude .result} (search needs), dot (c .before) .is)
 
 pub nearly-colinear-spec : {M : Type 1} → statement M
 nearly-colinear-spec =

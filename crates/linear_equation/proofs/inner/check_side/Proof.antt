@@ -1,7 +1,5 @@
-use mathlib.Core.Path.{_≡_, sym, ap, _∙_}
+use mathlib.Core.Path.{_≡_, _∙_}
 use borrow.Author.Needs.{needs}
-use lib.IntN.{pos}
-use lib.Signed.{leZ}
 use mir.Facts.{toZ-ofZ}
 use mir.Syntax.{w64}
 use mir.Val.{toZ, ofZ}
@@ -14,15 +12,11 @@ far c = toZ-ofZ {z = c .distance .result} (search needs) ∙ c .distance .ensure
 
 returns : tie.Need-returns
 unfolding isOnSide
-returns c =
-    let a = c .before .before .before .args in
-    ap (λ z. leZ z (pos 0)) (far (c .before .before)) ∙ ap (isOnSide (a .equation) (a .point)) (sym (c .enum-told .given .1))
+returns c = rw (far (c .before .before), c .enum-told .given .1)
 
 returns-2 : tie.Need-returns-2
 unfolding isOnSide
-returns-2 c =
-    let a = c .before .before .before .args in
-    ap (leZ (pos 0)) (far (c .before .before)) ∙ ap (isOnSide (a .equation) (a .point)) (sym (c .enum-told2 .given .1))
+returns-2 c = rw (far (c .before .before), c .enum-told2 .given .1)
 
 pub check-side-spec : {M : Type 1} → statement M
 check-side-spec = tie.close (tie.spec (λ c κs. search needs) (λ c. search needs) (λ c. search needs) returns returns-2)

@@ -7,7 +7,7 @@ use lib.IntN.{pos, natAbs}
 use mir.Syntax.{w64}
 use mir.Val.{ofZ}
 use Rattle.whole.specs.Rounded.{rounded}
-use Rattle.whole.proofs.Machine.{Hold, hold, hold-as, literal, fits-div, fits-quot, fits-sub, fits-add, hold-quot, hold-sub, hold-add, lt-hold}
+use Rattle.whole.proofs.Machine.{Hold, hold, hold-as, literal, fits-div, fits-quot, fits-sub, fits-add, hold-quot, hold-sub, hold-add}
 use Rattle.whole.proofs.inner.rounded.Statement.{statement}
 use Rattle.whole.proofs.inner.rounded.Tie as tie
 
@@ -34,7 +34,7 @@ returns c =
     let s = c .before .before in
     let n = hold (s .pre .0) tt in
     hold-quot (hold-sub n (hold-quot (size (c .before)) (literal 2 tt) tt) tt) (hold (s .pre .1 .0) tt) tt .is
-    ∙ simp (lt-hold n (literal 0 tt) (c .if1 .taken))
+    ∙ simp (simp (n .is) at (c .if1 .taken))
 
 add-result : tie.Need-add-result
 add-result c = let s = c .before .before in fits-add (hold (s .pre .0) tt) (hold-quot (size (c .before)) (literal 2 tt) tt) tt
@@ -50,7 +50,7 @@ returns-2 c =
     let s = c .before .before in
     let n = hold (s .pre .0) tt in
     hold-quot (hold-add n (hold-quot (size (c .before)) (literal 2 tt) tt) tt) (hold (s .pre .1 .0) tt) tt .is
-    ∙ simp (lt-hold n (literal 0 tt) (c .if1 .left))
+    ∙ simp (simp (n .is) at (c .if1 .left))
 
 pub rounded-spec : {M : Type 1} → statement M
 rounded-spec =
