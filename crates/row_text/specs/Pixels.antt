@@ -4,6 +4,7 @@ use mathlib.Core.List.{List}
 use Prim.Native.Nat.{ℕ, zero, suc}
 use lib.Dec.{eqb}
 use lib.IntN.{ℤ, pos, _+ℤ_}
+use Rattle.shapes.specs.declared.limits.Limits.{Limits}
 use Rattle.board.specs.Runs.{total}
 use Rattle.board.specs.Boards.{live}
 use Rattle.route_file.specs.Form.{routeCount, isFormed}
@@ -33,20 +34,20 @@ unfoldable pub litIn : Joins → RowRange → ℤ
 litIn route rows = sumFrom (litAt route rows) 0 (rowCount rows)
 
 -- "A refused route prints `k refused N` and adds nothing"
-unfoldable pub routePixels : Bool → List ℤ → ℤ → ℤ
-routePixels closed cs w =
-    let route = joinsOf closed cs w in
-    cond (eqb (wholeRefusal closed cs w) 0) (litIn route (rowsIn route)) (pos 0)
+unfoldable pub routePixels : Limits → Bool → List ℤ → ℤ → ℤ
+routePixels limits closed cs w =
+    let route = joinsOf (limits .corner) closed cs w in
+    cond (eqb (wholeRefusal limits closed cs w) 0) (litIn route (rowsIn route)) (pos 0)
 
 -- ---- the pixels of a file
 
 -- those of the route at place k
-unfoldable pub entryPixels : List ℕ → ℕ → ℤ
-entryPixels f k = routePixels (described f k .closed) (coordinates f k) (described f k .width)
+unfoldable pub entryPixels : Limits → List ℕ → ℕ → ℤ
+entryPixels limits f k = routePixels limits (described f k .closed) (coordinates f k) (described f k .width)
 
-unfoldable pub allPixels : List ℕ → ℤ
-allPixels f = sumFrom (entryPixels f) 0 (routeCount f)
+unfoldable pub allPixels : Limits → List ℕ → ℤ
+allPixels limits f = sumFrom (entryPixels limits f) 0 (routeCount f)
 
 -- a refused file prints none
-unfoldable pub filePixels : List ℕ → ℤ
-filePixels f = cond (isFormed f) (allPixels f) (pos 0)
+unfoldable pub filePixels : Limits → List ℕ → ℤ
+filePixels limits f = cond (isFormed f) (allPixels limits f) (pos 0)

@@ -2,18 +2,14 @@
 ghost use mathlib.Core.Path.{_≡_};
 ghost use Prim.Native.Nat.{_≤_};
 ghost use Rattle.whole.specs.Number.{Within};
-ghost use Rattle.shapes.specs.Limits.{cornerLimit, boardRuns};
+ghost use Rattle.shapes.specs.Limits.{lineLimit, boardRuns, Roomy};
 ghost use Rattle.route_file.specs.Form.{Formed};
 ghost use Rattle.route.specs.Joined.{Kept};
-ghost use Rattle.route.specs.Rows.{RowsNear, boardOn, rowsRefusal};
+ghost use Rattle.route.specs.Rows.{RowsNear};
 ghost use Rattle.row_text.specs.Pixels.{litOn, litIn, routePixels, entryPixels, allPixels};
 use board::Board;
 use board::Run;
 use board::inner::total_of;
-use replay_text::say;
-use replay_text::say_count;
-use replay_text::say_next;
-use replay_text::say_refused;
 use route::Joins;
 use route::RowRange;
 use route::inner::prepare;
@@ -23,6 +19,11 @@ use route::inner::row_count;
 use route::inner::rows_of;
 use route::inner::rows_refusal;
 use route_file::inner::count_of;
+use shapes::limits::Limits;
+use writing::say;
+use writing::say_count;
+use writing::say_next;
+use writing::say_refused;
 
 /// Pixels on their way round a loop.
 struct Sum {
@@ -51,11 +52,10 @@ fn print_runs(k: usize, board: Board)
     }
 }
 
-/// Prints the runs of a row that has room for them, and answers their pixels.
+/// Prints the runs of a row's board, and answers their pixels.
 fn print_row(k: usize, route: Joins, row: i64) -> i64
-    requires { ⌜ Kept route ⌝ }
-    requires { ⌜ Within row cornerLimit ⌝ }
-    requires { ⌜ boardOn route row .refusal ≡ 0 ⌝ }
+    requires { ⌜ Kept lineLimit route ⌝ }
+    requires { ⌜ Within row lineLimit ⌝ }
     ensures { λ r. ⌜ r ≡ litOn route row ⌝ }
 {
     let board = row_board(route, row).board;
@@ -63,11 +63,10 @@ fn print_row(k: usize, route: Joins, row: i64) -> i64
     total_of(board)
 }
 
-/// Prints the runs of a route that has no refused row, rows ascending, and answers their pixels.
+/// Prints the runs of a route's rows, rows ascending, and answers their pixels.
 fn print_rows(k: usize, route: Joins, rows: RowRange) -> i64
-    requires { ⌜ Kept route ⌝ }
-    requires { ⌜ RowsNear rows ⌝ }
-    requires { ⌜ rowsRefusal route rows ≡ 0 ⌝ }
+    requires { ⌜ Kept lineLimit route ⌝ }
+    requires { ⌜ RowsNear lineLimit rows ⌝ }
     ensures { λ r. ⌜ r ≡ litIn route rows ⌝ }
 {
     let n = row_count(rows);
@@ -91,18 +90,19 @@ fn print_refused(k: usize, number: u64) {
 }
 
 /// Prints the lines of route `k`: its runs, or the one line of its refusal. Answers the pixels of the runs.
-fn print_route(k: usize, coordinates: &[i64], width: i64, closed: bool) -> i64
-    ensures { λ r. ⌜ r ≡ routePixels closed (now (coordinates .entry)) width ⌝ }
+fn print_route(k: usize, coordinates: &[i64], width: i64, closed: bool, limits: Limits) -> i64
+    requires { ⌜ Roomy limits ⌝ }
+    ensures { λ r. ⌜ r ≡ routePixels limits closed (now (coordinates .entry)) width ⌝ }
 {
-    let route = prepare(coordinates, width, closed);
-    if 0 < route.refusal {
+    let route = prepare(coordinates, width, closed, limits);
+    if route.refusal != 0 {
         print_refused(k, route.refusal);
         return 0;
     }
     let joins = route.joins;
     let rows = rows_of(joins);
     let number = rows_refusal(joins, rows);
-    if 0 < number {
+    if number != 0 {
         print_refused(k, number);
         return 0;
     }
@@ -110,20 +110,23 @@ fn print_route(k: usize, coordinates: &[i64], width: i64, closed: bool) -> i64
 }
 
 /// Prints the lines of the route that stands at place `k` of a file, and answers the pixels of its runs.
-fn print_entry(file: &[u8], k: usize) -> i64
+fn print_entry(file: &[u8], k: usize, limits: Limits) -> i64
     requires { ⌜ Formed (now file) ⌝ }
-    ensures { λ r. ⌜ r ≡ entryPixels (now (file .entry)) k ⌝ }
+    requires { ⌜ Roomy limits ⌝ }
+    ensures { λ r. ⌜ r ≡ entryPixels limits (now (file .entry)) k ⌝ }
 {
     let entry = route_file::entry(file, k);
+    let width = entry.width;
     let mut room = [0i64; 32768];
     let count = route_file::points(file, k, &mut room).count;
-    print_route(k, &room[..count], entry.width, entry.closed)
+    print_route(k, &room[..count], width, entry.closed, limits)
 }
 
 /// Prints the number of a file's routes and the lines of each, and answers the pixels of their runs.
-pub fn print_routes(file: &[u8]) -> i64
+pub fn print_routes(file: &[u8], limits: Limits) -> i64
     requires { ⌜ Formed (now file) ⌝ }
-    ensures { λ r. ⌜ r ≡ allPixels (now (file .entry)) ⌝ }
+    requires { ⌜ Roomy limits ⌝ }
+    ensures { λ r. ⌜ r ≡ allPixels limits (now (file .entry)) ⌝ }
 {
     let n = count_of(file);
     say(b"routes ");
@@ -132,7 +135,7 @@ pub fn print_routes(file: &[u8]) -> i64
     let mut sum = Sum { total: 0 };
     let mut k: usize = 0;
     while k < n {
-        let pixels = print_entry(file, k);
+        let pixels = print_entry(file, k, limits);
         sum.total = sum.total + pixels;
         k += 1;
     }

@@ -1,28 +1,30 @@
 //! What the program `rows` prints of a route file. No contract can say what is written; but who prints knows how many pixels the
 //! runs have that are printed, and for that there is one.
 ghost use mathlib.Core.Path.{_≡_};
+ghost use Rattle.shapes.specs.Limits.{panel as panelLimits};
 ghost use Rattle.row_text.specs.Pixels.{filePixels};
 
 pub mod inner; // inner.rt: the lines of a file that is not refused
 
 use inner::print_routes;
-use replay_text::say;
-use replay_text::say_number;
-use replay_text::say_refused;
 use route_file::route_count;
+use shapes::limits::panel;
+use writing::say;
+use writing::say_number;
+use writing::say_refused;
 
 /// Prints how many routes a file has; of each its runs, rows ascending, or its refusal; and the pixels of all printed runs, which it
 /// also answers. 9 if the file's form is wrong, or it has more than 65,535 bytes: `refused 9` alone is printed, and there are none.
 pub fn print_file(file: &[u8]) -> i64
-    ensures { λ r. ⌜ r ≡ filePixels (now (file .entry)) ⌝ }
+    ensures { λ r. ⌜ r ≡ filePixels panelLimits (now (file .entry)) ⌝ }
 {
     let counted = route_count(file);
-    if 0 < counted.refusal {
+    if counted.refusal != 0 {
         say_refused(counted.refusal);
         say(b"\n");
         return 0;
     }
-    let total = print_routes(file);
+    let total = print_routes(file, panel());
     say(b"total ");
     say_number(total);
     say(b"\n");

@@ -8,37 +8,20 @@ use lib.ListN.{length, getD}
 use mir.Syntax.{w64}
 use mir.Val.{toZ, ofZ}
 use mir.Facts.{toZ-ofZ}
+use Rattle.shapes.specs.Limits.{panel}
 use Rattle.bench_rows.proofs.Laws.{Left, left-all, left-more, left-none}
 use Rattle.bench_rows.proofs.knitbramble_rows_by_entry.Statement.{statement}
 use Rattle.bench_rows.proofs.knitbramble_rows_by_entry.Tie as tie
 
 abbrev Inv-loop : tie.InvT-loop
 Inv-loop coordinates width closed rows out₀ last₀ i₀ out last i =
-    (i ≤ length rows) × ((length out ≡ length out₀) × Left closed coordinates (toZ w64 width) rows out₀ i last out)
+    (i ≤ length rows) × ((length out ≡ length out₀) × Left panel closed coordinates (toZ w64 width) rows out₀ i last out)
 
 abbrev μ-loop : tie.MeasureT-loop
 μ-loop coordinates width closed rows out₀ last₀ i₀ out last i = length rows - i
 
-refused-requires : tie.Need-refused-requires Inv-loop μ-loop
-refused-requires c κs = search needs
-
 loop-holds : tie.Need-loop-holds Inv-loop μ-loop
-loop-holds c = let a = c .before .args in (omega arith, (refl, left-all (a .closed) (a .coordinates .now) (toZ w64 (ofZ w64 (a .width))) (a .rows .now) (a .out .now) (c .refused .ensures)))
-
-mul-row : tie.Need-mul-row Inv-loop μ-loop
-mul-row c = search needs
-
-shared-slice-copy-out-row : tie.Need-shared-slice-copy-out-row Inv-loop μ-loop
-shared-slice-copy-out-row c = search needs
-
-row-requires : tie.Need-row-requires Inv-loop μ-loop
-row-requires c κs = search needs
-
-add-i : tie.Need-add-i Inv-loop μ-loop
-add-i c = search needs
-
-loop-less : tie.Need-loop-less Inv-loop μ-loop
-loop-less c = omega arith
+loop-holds c = let a = c .before .args in (omega arith, (refl, left-all panel (a .closed) (a .coordinates .now) (toZ w64 (ofZ w64 (a .width))) (a .rows .now) (a .out .now) (c .refused .ensures)))
 
 loop-again : tie.Need-loop-again Inv-loop μ-loop
 loop-again c =
@@ -49,19 +32,16 @@ loop-again c =
       omega arith,
       (
         search needs,
-        left-more (a .closed) (a .coordinates .now) (toZ w64 (ofZ w64 (a .width))) (a .rows .now) (a .out .now) (l .loop .i) (l .loop .last) (l .loop .out) (omega arith) (inv .1 .0) (told .0) (told .1) (inv .1 .1),
+        left-more panel (a .closed) (a .coordinates .now) (toZ w64 (ofZ w64 (a .width))) (a .rows .now) (a .out .now) (l .loop .i) (l .loop .last) (l .loop .out) (omega arith) (inv .1 .0) (told .0) (told .1) (inv .1 .1),
       ),
     )
-
-same-length : tie.Need-same-length Inv-loop μ-loop
-same-length c = search needs
 
 returns : tie.Need-returns Inv-loop μ-loop
 returns c =
     let l = c .before .before in
     let s = l .before .before in
     let a = s .args in
-    let all = left-none (a .closed) (a .coordinates .now) (toZ w64 (ofZ w64 (a .width))) (a .rows .now) (a .out .now) (l .loop .i) (l .loop .last) (l .loop .out) (omega (arith, l .loop .inv .0)) (l .loop .inv .1 .1) in
+    let all = left-none panel (a .closed) (a .coordinates .now) (toZ w64 (ofZ w64 (a .width))) (a .rows .now) (a .out .now) (l .loop .i) (l .loop .last) (l .loop .out) (omega (arith, l .loop .inv .0)) (l .loop .inv .1 .1) in
     let told = rw (toZ-ofZ (s .fits .width)) at all in
     (toZ-ofZ {w = w64} {z = l .loop .last .total} (search needs) ∙ told .0, told .1)
 
@@ -71,13 +51,13 @@ knitbramble-rows-by-entry-spec =
     (tie.spec
     Inv-loop
     μ-loop
-    refused-requires
+    (λ c κs. search needs)
     loop-holds
-    mul-row
-    shared-slice-copy-out-row
-    row-requires
-    add-i
-    loop-less
+    (λ c. search needs)
+    (λ c. search needs)
+    (λ c κs. search needs)
+    (λ c. search needs)
+    (λ c. omega arith)
     loop-again
-    same-length
+    (λ c. search needs)
     returns)
