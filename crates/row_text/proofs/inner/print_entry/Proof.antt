@@ -8,6 +8,7 @@ use lib.IntN.{ℤ, pos}
 use lib.ListN.{length, getD, take, replicate, length-replicate}
 use mir.Facts.{toZ-ofZ}
 use mir.Syntax.{w64}
+use mir.Val.{toZ, ofZ}
 use Rattle.route_file.specs.Answers.{coordinates}
 use Rattle.route_file.proofs.Laws.{enough}
 use Rattle.row_text.specs.Pixels.{routePixels, entryPixels}
@@ -47,7 +48,7 @@ returns c =
     let l = start p .args .limits in
     let e = p .before .before .before .entry in
     toZ-ofZ {w = w64} {z = c .print-route .result} (search needs) ∙ c .print-route .ensures
-    ∙ ap (λ cs. routePixels l (e .result .closed) cs _) (numbers p)
+    ∙ ap (λ cs. routePixels l (e .result .closed) cs (toZ w64 (ofZ w64 (e .result .width)))) (numbers p)
     ∙ ap (routePixels l (e .result .closed) (own p)) (toZ-ofZ {w = w64} {z = e .result .width} (search needs))
     ∙ ap (λ d. routePixels l (d .closed) (own p) (d .width)) (e .ensures)
 
