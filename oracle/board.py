@@ -1,9 +1,9 @@
 #!/usr/bin/env python3
-"""Questions and answers for the program replay_board, by an independent calculation: the lit columns of a row are a plain set of
+"""Questions and answers for the program test_board, by an independent calculation: the lit columns of a row are a plain set of
 numbers, and its runs are read off the sorted set. No run is ever joined with another here.
 
-`python3 oracle/board.py` writes crates/replay_board/stdin (events, one to a line) and crates/replay_board/stdout (an answer for each).
-The random histories have a fixed seed. The form of the lines is told at the top of crates/replay_board/src/main.rt.
+`python3 oracle/board.py` writes crates/test_board/stdin (events, one to a line) and crates/test_board/stdout (an answer for each).
+The random histories have a fixed seed. The form of the lines is told at the top of crates/test_board/src/main.rt.
 """
 import itertools
 import os
@@ -232,7 +232,7 @@ def main():
     r = Replay()
     for part in [corners, orders, several, full, handed_in, long_histories]:
         part(r)
-    folder = os.path.join(os.path.dirname(os.path.abspath(__file__)), "..", "crates", "replay_board")
+    folder = os.path.join(os.path.dirname(os.path.abspath(__file__)), "..", "crates", "test_board")
     for name, lines in [("stdin", r.questions), ("stdout", r.answers)]:
         with open(os.path.join(folder, name), "w") as out:
             out.write("".join(line + "\n" for line in lines))
