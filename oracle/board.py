@@ -1,12 +1,9 @@
-#!/usr/bin/env python3
-"""Questions and answers for the program replay_board, by an independent calculation: the lit columns of a row are a plain set of
+"""Histories of boards and their answers, by an independent calculation: the lit columns of a row are a plain set of
 numbers, and its runs are read off the sorted set. No run is ever joined with another here.
 
-`python3 oracle/board.py` writes crates/replay_board/stdin (events, one to a line) and crates/replay_board/stdout (an answer for each).
-The random histories have a fixed seed. The form of the lines is told at the top of crates/replay_board/src/main.rt.
+The random histories have a fixed seed. The form of the lines is told at the top of crates/test_replay/src/boards.rt.
 """
 import itertools
-import os
 import random
 
 FIRST, LAST = -4095, 4095
@@ -228,17 +225,11 @@ def long_histories(r):
         r.show()
 
 
-def main():
+def histories():
+    """Pairs of an event and its answer."""
     r = Replay()
     for part in [corners, orders, several, full, handed_in, long_histories]:
         part(r)
-    folder = os.path.join(os.path.dirname(os.path.abspath(__file__)), "..", "crates", "replay_board")
-    for name, lines in [("stdin", r.questions), ("stdout", r.answers)]:
-        with open(os.path.join(folder, name), "w") as out:
-            out.write("".join(line + "\n" for line in lines))
     counts = {n: sum(a == str(n) for a in r.answers) for n in (0, 6, 7, 8)}
     print(len(r.questions), "events; answers that are a number alone:", counts)
-
-
-if __name__ == "__main__":
-    main()
+    return list(zip(r.questions, r.answers))

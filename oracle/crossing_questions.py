@@ -1,4 +1,4 @@
-"""The questions of the list `replay_crossing`: kinds e, d, s, c and n.
+"""The questions of the list `crossings`: kinds e, d, s, c and n.
 
 `questions` answers pairs (class, question), always the same ones.
 """

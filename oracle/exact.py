@@ -166,17 +166,19 @@ def line_words(lines):
     return words(len(lines), *(words(*flat(line)) for line in lines))
 
 
-def lines_of_join(*numbers):
-    found = handed_in(*numbers)
-    refuse_corners(found)
+def filled_words(found):
     filler = joins.filler_line(found)
-    parts = (
+    return (
         words(*flat(filler)) if filler else "none",
         line_words(joins.start_cap_lines(found)),
         line_words(joins.end_cap_lines(found)),
-        truth(joins.is_degenerate(found)),
     )
-    return " | ".join(parts)
+
+
+def lines_of_join(*numbers):
+    found = handed_in(*numbers)
+    refuse_corners(found)
+    return " | ".join([*filled_words(found), truth(joins.is_degenerate(found))])
 
 
 # Segments and spans.
@@ -300,6 +302,80 @@ def runs_of_route(coordinates, width, closed):
     return [(row, *run) for row, _, runs in rows for run in runs]
 
 
+# All fields of an answer: a refusal has 0 for every other one, and a state handed in stays as it was.
+
+
+def number_of(asked, *numbers):
+    """The refusal's number, or 0."""
+    try:
+        asked(*numbers)
+    except Refused as refusal:
+        return refusal.args[0]
+    return 0
+
+
+def starts(width, offset, row, count, *coordinates):
+    """Refusal, place and width of the three walks; of the closed one its offset, of the polyline its span."""
+
+    def refuse_row():
+        route(width, count, coordinates)
+        refuse(6, beyond(CORNER_LIMIT, [row]))
+
+    def fields(number, accepted, refused):
+        return words(number, 0, *(refused if number else accepted))
+
+    of_open = number_of(route, width, count, coordinates)
+    of_closed = number_of(route, width, count, coordinates, True)
+    parts = (
+        fields(of_open, [width], [0]),
+        fields(of_closed, [width, strokes.OFFSETS[offset]], [0, "None"]),
+        fields(number_of(refuse_row), [width, row, 0, 0], [0, 0, 0, 0]),
+    )
+    return " | ".join(parts)
+
+
+def next_of_gathered(width, offset, row, count, *coordinates):
+    """The polyline's `next` of a walk at place 1 that has gathered 5 to 9; past the end it is handed out."""
+    number = number_of(spans_of_row, width, offset, row, count, *coordinates)
+    if number:
+        return words(number, "false", 0, 0, 0, "|", 1, width, row, 5, 9)
+    assert count <= 4
+    return words(0, "true", row, 5, 9, "|", 1, width, row, 0, 0)
+
+
+def taken_span(row, start, end):
+    def refuse_span():
+        refuse(6, beyond(CORNER_LIMIT, [row]))
+        refuse_columns((start, end))
+
+    number = number_of(refuse_span)
+    if number or segments.is_empty((start, end)):
+        return words(number, "false", 0, 0, 0, "|", row, start, end)
+    return words(0, "true", row, start, end, "|", row, 0, 0)
+
+
+def each_line_of_join(*numbers):
+    """Filler line, start cap and end cap, each refused by itself."""
+    found = handed_in(*numbers)
+    number = number_of(refuse_corners, found)
+    return " | ".join([f"refused {number}"] * 3 if number else filled_words(found))
+
+
+def fields_of_file(k, *data):
+    """Count; found, points, width and closed of an entry; its points in a list of six numbers, which were -7."""
+    routes = route_files.routes_of(data)
+    number, known = (9, []) if routes is None else (0, routes)
+    coordinates, width, closed = known[k] if k < len(known) else ([], 0, 0)
+    room = number or (8 if len(coordinates) > 6 else 0)
+    listed = [] if room else coordinates
+    parts = (
+        words(number, len(known)),
+        words(number, truth(k < len(known)), len(coordinates) // 2, width, truth(closed)),
+        words(room, len(listed), *listed, *[-7] * (6 - len(listed))),
+    )
+    return " | ".join(parts)
+
+
 KINDS = {
     "e": equation,
     "d": distance,
@@ -322,6 +398,11 @@ KINDS = {
     "N": open_walk,
     "M": merged_spans,
     "F": rows_of_file,
+    "o": starts,
+    "v": next_of_gathered,
+    "y": taken_span,
+    "g": each_line_of_join,
+    "h": fields_of_file,
 }
 
 

@@ -1,4 +1,4 @@
-"""The questions of the list `replay_rows`: kind F, route files, good and damaged.
+"""The questions of the list `files`: kind F, route files, good and damaged.
 
 `questions` answers pairs (class, question), always the same ones.
 """

@@ -1,8 +1,8 @@
 #!/usr/bin/env python3
-"""Writes what the program in_place has to print, crates/in_place/stdout, from exact joins, segments and sets of lit columns.
+"""Writes what the program test_in_place has to print, crates/test_in_place/stdout, from exact joins, segments and sets of lit columns.
 
 A route is here the list of its segments, made at once; a walk is a place in that list. The form of the lines is told at the top
-of crates/in_place/src/main.rt.
+of crates/test_in_place/src/main.rt.
 """
 
 from pathlib import Path
@@ -53,5 +53,5 @@ def lines():
 
 
 if __name__ == "__main__":
-    target = Path(__file__).resolve().parent.parent / "crates" / "in_place" / "stdout"
+    target = Path(__file__).resolve().parent.parent / "crates" / "test_in_place" / "stdout"
     target.write_text("".join(line + "\n" for line in lines()))

@@ -1,4 +1,4 @@
-"""The questions of the list `replay_join`: kinds a, z, j and f.
+"""The questions of the list `joins`: kinds a, z, j and f.
 
 `questions` answers pairs (class, question), always the same ones.
 """

@@ -1,4 +1,4 @@
-"""The questions of the list `replay_segment`: kinds k, r, m and u.
+"""The questions of the list `segments`: kinds k, r, m and u.
 
 `questions` answers pairs (class, question), always the same ones.
 """

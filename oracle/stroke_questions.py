@@ -1,4 +1,4 @@
-"""The questions of the list `replay_stroke`: kinds x, p and t.
+"""The questions of the list `strokes`: kinds x, p and t.
 
 `questions` answers pairs (class, question), always the same ones.
 """

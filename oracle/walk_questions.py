@@ -1,4 +1,4 @@
-"""The questions of the list `replay_walk`: kinds O, C, N and M.
+"""The questions of the list `walks`: kinds O, C, N and M.
 
 `questions` answers pairs (class, question), always the same ones.
 """

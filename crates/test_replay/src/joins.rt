@@ -26,6 +26,7 @@ pub fn answer(kind: u8, questions: &[u8], at: usize) {
         b'a' | b'z' => answer_end(kind, questions, at),
         b'j' => answer_points(questions, at),
         b'f' => answer_lines(questions, at),
+        b'g' => answer_each(questions, at),
         _ => {}
     }
 }
@@ -59,6 +60,13 @@ fn answer_lines(questions: &[u8], at: usize) {
     say_lines(join);
 }
 
+/// The three lines of a join, each entry by itself.
+fn answer_each(questions: &[u8], at: usize) {
+    let asked = join_at(questions, at);
+    let join = asked.join;
+    say_filled(join);
+}
+
 fn say_joined(joined: Joined) {
     match joined {
         Joined::Made(join) => say_join(join),
@@ -73,13 +81,18 @@ fn say_lines(join: Join) {
         say_refused(tested.refusal);
         return;
     }
+    say_filled(join);
+    say(b" | ");
+    say_bool(tested.degenerate);
+}
+
+/// The filler line, and the lines of both caps.
+fn say_filled(join: Join) {
     say_filler(filler_line(join));
     say(b" | ");
     say_caps(start_cap_lines(join));
     say(b" | ");
     say_caps(end_cap_lines(join));
-    say(b" | ");
-    say_bool(tested.degenerate);
 }
 
 fn say_filler(filler: Filler) {

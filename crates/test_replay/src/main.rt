@@ -1,21 +1,38 @@
-//! Answers every kind of stored question: one line of standard input, one line of standard output. What it must write stands in
-//! `stdout`, and comes from two other calculations of the same rules (oracle/README.md).
+//! Answers the stored lists of questions, one line for each line. What it must write stands in `stdout`; none of it comes from
+//! this repository's code (oracle/README.md).
+mod boards; // boards.rt: histories of boards
+mod files; // files.rt: route files
 mod joins; // joins.rt: joins, and the lines of a join handed in
 mod lines; // lines.rt: equations, sides and crossings
 mod segments; // segments.rt: segments between two joins, and spans
 mod strokes; // strokes.rt: extents, parallels and thick points
 mod walks; // walks.rt: walks along a route, and its merged spans
 
-use libc::STDIN_FILENO;
 use test_numbers::byte_at;
 use test_numbers::skip_past;
 use test_text::after;
 use writing::say;
 
 fn main() {
-    let mut questions = [0u8; 1048576];
-    let n = io::read_full(STDIN_FILENO, &mut questions);
+    answer_list(b"crossings");
+    answer_list(b"strokes");
+    answer_list(b"joins");
+    answer_list(b"segments");
+    answer_list(b"walks");
+    answer_list(b"fields");
+    replay_boards(b"boards");
+}
+
+fn answer_list(name: &[u8]) {
+    let mut questions = [0u8; 262144];
+    let n = io::read_full(os::open_read(name), &mut questions);
     answer_all(&questions[..n]);
+}
+
+fn replay_boards(name: &[u8]) {
+    let mut events = [0u8; 65536];
+    let n = io::read_full(os::open_read(name), &mut events);
+    boards::replay(&events[..n]);
 }
 
 fn answer_all(questions: &[u8]) {
@@ -29,14 +46,38 @@ fn answer_all(questions: &[u8]) {
 /// A letter that names the kind, and its numbers.
 fn answer(questions: &[u8], at: usize) {
     let kind = byte_at(questions, at);
-    let first = after(after(at));
-    match kind {
-        b'e' | b'd' | b's' | b'c' | b'n' => lines::answer(kind, questions, first),
-        b'x' | b'p' | b't' => strokes::answer(kind, questions, first),
-        b'a' | b'z' | b'j' | b'f' => joins::answer(kind, questions, first),
-        b'k' | b'r' | b'm' | b'u' => segments::answer(kind, questions, first),
-        b'O' | b'C' | b'N' | b'M' => walks::answer(kind, questions, first),
-        _ => {}
-    }
+    answer_kind(kind, questions, after(after(at)));
     say(b"\n");
+}
+
+fn answer_kind(kind: u8, questions: &[u8], at: usize) {
+    if is_among(kind, b"edscn") {
+        return lines::answer(kind, questions, at);
+    }
+    if is_among(kind, b"xpt") {
+        return strokes::answer(kind, questions, at);
+    }
+    if is_among(kind, b"azjfg") {
+        return joins::answer(kind, questions, at);
+    }
+    if is_among(kind, b"krmuy") {
+        return segments::answer(kind, questions, at);
+    }
+    if is_among(kind, b"OCNMov") {
+        return walks::answer(kind, questions, at);
+    }
+    if kind == b'h' {
+        files::answer(questions, at);
+    }
+}
+
+fn is_among(letter: u8, letters: &[u8]) -> bool {
+    let mut i = 0;
+    while i < letters.len() {
+        if letters[i] == letter {
+            return true;
+        }
+        i += 1;
+    }
+    false
 }

@@ -2,12 +2,14 @@
 use scanline::Extended;
 use scanline::meet;
 use scanline::try_extend;
+use scanline::try_take;
 use shapes::Span;
 use shapes::limits::CORNER;
 use test_joins::join_at;
 use test_text::after;
 use test_text::line_at;
 use test_text::say_bool;
+use test_text::say_fields;
 use test_text::say_line;
 use test_text::say_point;
 use thick_segment::Boxed;
@@ -44,6 +46,7 @@ pub fn answer(kind: u8, questions: &[u8], at: usize) {
         b'r' => answer_row(questions, at),
         b'm' => answer_meet(questions, at),
         b'u' => answer_extend(questions, at),
+        b'y' => answer_take(questions, at),
         _ => {}
     }
 }
@@ -77,6 +80,19 @@ fn answer_extend(questions: &[u8], at: usize) {
     let current = first.span;
     let other = second.span;
     say_extended(try_extend(current, other));
+}
+
+/// All fields of what `try_take` answers.
+fn answer_take(questions: &[u8], at: usize) {
+    let asked = span_at(questions, at);
+    let held = asked.span;
+    let tried = try_take(held);
+    say_count(tried.refusal);
+    say(b" ");
+    say_bool(tried.taken);
+    say_fields(tried.span);
+    say(b" |");
+    say_fields(tried.rest);
 }
 
 /// Two joins.

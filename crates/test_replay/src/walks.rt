@@ -4,13 +4,17 @@ use route_joins::Step;
 use scanline_intersections::Intersections;
 use scanline_intersections::Merged;
 use shapes::Offset;
+use shapes::Span;
 use test_joins::say_join;
 use test_text::after;
 use test_text::offset_at;
+use test_text::say_bool;
+use test_text::say_fields;
 use test_text::size_up_to;
 use thick_segment::Segment;
 use thick_segment_iter::Walk as OpenWalk;
 use writing::say;
+use writing::say_count;
 use writing::say_next;
 use writing::say_number;
 use writing::say_refused;
@@ -78,6 +82,8 @@ fn answer_kind(asked: Asked, coordinates: &[i64]) {
         b'C' => say_all(coordinates, begin_closed(coordinates, width, offset)),
         b'N' => say_all(coordinates, begin_polyline(coordinates, width)),
         b'M' => say_all(coordinates, begin_merged(coordinates, width, row)),
+        b'o' => say_starts(coordinates, width, offset, row),
+        b'v' => say_next_of(coordinates, width, row),
         _ => {}
     }
 }
@@ -241,4 +247,60 @@ fn say_segment(segment: Segment) {
     say(b" / ");
     say_join(end);
     say(b" | ");
+}
+
+/// All fields of what the three starts answer.
+fn say_starts(coordinates: &[i64], width: i64, offset: Offset, row: i64) {
+    let open = thick_segment_iter::start(coordinates, width);
+    let open_walk = open.walk;
+    say_begun(open.refusal, open_walk.place, open_walk.width);
+    say(b" | ");
+    let closed = closed_thick_segment_iter::start(coordinates, width, offset);
+    let closed_walk = closed.walk;
+    say_begun(closed.refusal, closed_walk.place, closed_walk.width);
+    let kept = closed_walk.offset;
+    say_offset(kept);
+    say(b" | ");
+    let polyline = scanline_intersections::start(coordinates, width, row);
+    let walk = polyline.walk;
+    say_begun(polyline.refusal, walk.place, walk.width);
+    say_fields(walk.span);
+}
+
+fn say_begun(refusal: u64, place: usize, width: i64) {
+    say_count(refusal);
+    say(b" ");
+    say_count(place as u64);
+    say_next(width);
+}
+
+fn say_offset(offset: Offset) {
+    match offset {
+        Offset::None => say(b" None"),
+        Offset::Left => say(b" Left"),
+        Offset::Right => say(b" Right"),
+    }
+}
+
+/// All fields of what the polyline's `next` answers to a walk at place 1 that has gathered 5 to 9.
+fn say_next_of(coordinates: &[i64], width: i64, row: i64) {
+    let asked = Intersections {
+        place: 1,
+        width,
+        span: Span {
+            row,
+            start: 5,
+            end: 9,
+        },
+    };
+    let merged = scanline_intersections::next(coordinates, asked);
+    say_count(merged.refusal);
+    say(b" ");
+    say_bool(merged.found);
+    say_fields(merged.span);
+    say(b" | ");
+    let walk = merged.walk;
+    say_count(walk.place as u64);
+    say_next(walk.width);
+    say_fields(walk.span);
 }

@@ -2,10 +2,12 @@
 //! question, and lists, points and lines are written to standard output. No contract can say what is written.
 ghost use mathlib.Core.Path.{_≡_};
 ghost use Prim.Native.Nat.{_≤_};
+ghost use lib.ListN.{length};
 ghost use Rattle.test_text.specs.Questions.{nextPlace, pointAt, lineAt, offsetAt};
 use shapes::Line;
 use shapes::Offset;
 use shapes::Point;
+use shapes::Span;
 use writing::say;
 use writing::say_next;
 use writing::say_number;
@@ -86,6 +88,48 @@ pub fn offset_at(s: &[u8], at: usize) -> Offset
     Offset::None
 }
 
+/// Reads the bytes that stand at a place, two hexadecimal digits each, up to what is no byte, as many as
+/// the list has room for; answers how many they are.
+pub fn read_bytes(lines: &[u8], at: usize, file: &mut [u8]) -> usize
+    ensures { λ r. ⌜ r ≤ length (now (file .exit)) ⌝ }
+{
+    let mut next = at;
+    let mut n = 0;
+    while n < file.len() {
+        let high = digit_of(test_numbers::byte_at(lines, next));
+        let low = digit_of(test_numbers::byte_at(lines, after(next)));
+        if 15 < high {
+            return n;
+        }
+        if 15 < low {
+            return n;
+        }
+        file[n] = 16 * high + low;
+        next = after(after(next));
+        n += 1;
+    }
+    n
+}
+
+/// What a hexadecimal digit says; of any other byte 16.
+fn digit_of(byte: u8) -> u8
+    ensures { λ r. ⌜ r ≤ 16 ⌝ }
+{
+    if byte < b'0' {
+        return 16;
+    }
+    if byte <= b'9' {
+        return byte - b'0';
+    }
+    if byte < b'a' {
+        return 16;
+    }
+    if byte <= b'f' {
+        return byte - b'a' + 10;
+    }
+    16
+}
+
 /// Writes a space and a number, for each number of a list.
 pub fn say_numbers(numbers: &[i64]) {
     let mut i = 0;
@@ -108,6 +152,13 @@ pub fn say_line(line: Line) {
     say_point(start);
     say(b" ");
     say_point(end);
+}
+
+/// Writes a span's row, start and end, a space before each.
+pub fn say_fields(span: Span) {
+    say_next(span.row);
+    say_next(span.start);
+    say_next(span.end);
 }
 
 /// Writes `true` or `false`.

@@ -54,6 +54,7 @@ use Rattle.board.proofs.Board as B
 use Rattle.board.proofs.Board.Laws as B′
 use Rattle.board.proofs.Listed as S
 use Rattle.board.proofs.Listed.Laws as S′
+use Rattle.shapes.specs.Limits.{cornerLimit}
 use Rattle.board_records.specs.Records.{bothListed, numbersTo, recordsTo}
 use Rattle.board_records.proofs.Values.{held, head-is}
 use Rattle.board_records.proofs.list_records as list-records
@@ -141,7 +142,7 @@ module _ {M : Type 1} (𝓤 : URA M) (H : Heap 𝓤) (A : Atoms 𝓤) (W : Given
   Post = walkOf 𝓤 H A owner.ended stayed (owner.clauses 𝓤 H A at-mem run) .post ((tt, tt, tt, a, vals), tt)
 
   abbrev Answered : Listed → List ℤ → List Run → Type 0
-  Answered r ws ws′ = (r ≡ bothListed d (length ns) (length rs)) × ((ws ≡ numbersTo d ns (length rs)) × (ws′ ≡ recordsTo d (length ns) rs))
+  Answered r ws ws′ = (r ≡ bothListed cornerLimit d (length ns) (length rs)) × ((ws ≡ numbersTo cornerLimit d ns (length rs)) × (ws′ ≡ recordsTo cornerLimit d (length ns) rs))
 
   promised : (r : Listed) (ws : List ℤ) (ws′ : List Run) → Answered r ws ws′ → made r ws ws′ ≡ listsOf d ns rs
   unfolding listsOf

@@ -1,4 +1,4 @@
-//! Replays histories of boards. A line of the input is an event, and an answer line is written for each:
+//! Histories of boards. A line is an event, and an answer line is written for each:
 //!   r ROW                   a fresh board                 refusal
 //!   o ROW START END         an offer                      refusal
 //!   c                       a clear                       refusal
@@ -7,7 +7,6 @@
 //!   s                       the board as it stands        row, count, and start and end of all 32
 use board::Board;
 use board::Run;
-use libc::STDIN_FILENO;
 use shapes::Span;
 use test_numbers::Number;
 use test_text::say_numbers;
@@ -133,17 +132,11 @@ fn event(s: &[u8], at: usize, board: Board) -> Board {
     }
 }
 
-fn replay(s: &[u8]) {
+pub fn replay(s: &[u8]) {
     let mut board = board::inner::empty_board(0);
     let mut at: usize = 0;
     while at < s.len() {
         board = event(s, at, board);
         at = test_numbers::skip_past(s, at, b'\n');
     }
-}
-
-fn main() {
-    let mut input = [0u8; 262144];
-    let n = io::read_full(STDIN_FILENO, &mut input);
-    replay(&input[..n]);
 }

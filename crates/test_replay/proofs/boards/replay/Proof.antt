@@ -1,10 +1,10 @@
--- `test_board::replay` ends: each turn moves on in the text. Assumes nothing.
+-- `test_replay::boards::replay` ends: each turn moves on in the text. Assumes nothing.
 use Prim.Native.Nat.{_-_}
 use native.Mathlib.Omega.{arith}
 use lib.ListN.{length}
 use Rattle.test_numbers.proofs.Laws.{skip-later}
-use Rattle.test_board.proofs.replay.Statement.{statement}
-use Rattle.test_board.proofs.replay.Tie as tie
+use Rattle.test_replay.proofs.boards.replay.Statement.{statement}
+use Rattle.test_replay.proofs.boards.replay.Tie as tie
 
 abbrev Inv-loop : tie.InvT-loop
 Inv-loop s board₀ at₀ board at = Unit {0}

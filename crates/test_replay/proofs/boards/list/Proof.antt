@@ -1,11 +1,11 @@
--- `test_board::list` is safe: what it lends of its 80 numbers is as long as it says. Assumes nothing.
+-- `test_replay::boards::list` is safe: what it lends of its 80 numbers is as long as it says. Assumes nothing.
 use mathlib.Core.Path.{sym}
 use borrow.Author.Needs.{needs}
 use lib.IntN.{negsuc}
 use lib.ListN.{replicate}
 use lib.Seq.{length-take-le}
-use Rattle.test_board.proofs.list.Statement.{statement}
-use Rattle.test_board.proofs.list.Tie as tie
+use Rattle.test_replay.proofs.boards.list.Statement.{statement}
+use Rattle.test_replay.proofs.boards.list.Tie as tie
 
 number-after-requires : tie.Need-number-after-requires
 number-after-requires c κs = search needs

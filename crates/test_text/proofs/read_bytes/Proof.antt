@@ -1,11 +1,11 @@
--- `replay_rows::read_bytes` is safe and ends: each turn fills a place. The measure is how many are left. Assumes nothing.
+-- `test_text::read_bytes` is safe and ends: each turn fills a place. The measure is how many are left. Assumes nothing.
 use mathlib.Core.Path.{_≡_, _∙_}
 use Prim.Native.Nat.{_-_, _≤_}
 use native.Mathlib.Omega.{arith}
 use lib.ListN.{length, length-set}
 use borrow.Author.Needs.{needs}
-use Rattle.replay_rows.proofs.read_bytes.Statement.{statement}
-use Rattle.replay_rows.proofs.read_bytes.Tie as tie
+use Rattle.test_text.proofs.read_bytes.Statement.{statement}
+use Rattle.test_text.proofs.read_bytes.Tie as tie
 
 abbrev Inv-loop : tie.InvT-loop
 Inv-loop lines at file₀ next₀ n₀ file next n = (length file ≡ length file₀) × (n ≤ length file)

@@ -1,9 +1,9 @@
--- `test_board::say_board` is safe and ends. The measure is how many runs are left. Assumes nothing.
+-- `test_replay::boards::say_board` is safe and ends. The measure is how many runs are left. Assumes nothing.
 use Prim.Native.Nat.{_-_, _≤_}
 use native.Mathlib.Omega.{arith}
 use borrow.Author.Needs.{needs}
-use Rattle.test_board.proofs.say_board.Statement.{statement}
-use Rattle.test_board.proofs.say_board.Tie as tie
+use Rattle.test_replay.proofs.boards.say_board.Statement.{statement}
+use Rattle.test_replay.proofs.boards.say_board.Tie as tie
 
 abbrev Inv-loop : tie.InvT-loop
 Inv-loop runs i₀ t6 i = i ≤ 32

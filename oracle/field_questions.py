@@ -1,0 +1,155 @@
+"""The questions of the list `fields`: kinds o, v, y, g and h, all fields of an answer; and two faults at once of m and u.
+
+Each answer is worked out by hand from document 01 and stands here; the exact calculation must say the same. The Rust has no
+refusals, and is not asked.
+"""
+
+from exact import words
+
+KINDS = "ovyghmu"
+BY_HAND = True
+
+# 257 points, all (0,0).
+MANY = words(514, *[0] * 514)
+
+# One fault each, then two at once: the first of the table is told.
+STARTS = [
+    ("o 3 1 7 4 0 0 5 5", "0 0 3 | 0 0 3 Left | 0 0 3 7 0 0"),
+    ("o 0 2 -4095 0", "0 0 0 | 0 0 0 Right | 0 0 0 -4095 0 0"),
+    ("o 3 1 7 3 0 0 5", "1 0 0 | 1 0 0 None | 1 0 0 0 0 0"),
+    ("o 3 2 7 2 0 0", "0 0 3 | 2 0 0 None | 0 0 3 7 0 0"),
+    (f"o 3 2 7 {MANY}", "2 0 0 | 2 0 0 None | 2 0 0 0 0 0"),
+    ("o 65 2 7 4 0 0 5 5", "3 0 0 | 3 0 0 None | 3 0 0 0 0 0"),
+    ("o -1 1 7 4 0 0 5 5", "3 0 0 | 3 0 0 None | 3 0 0 0 0 0"),
+    ("o 3 1 7 4 0 0 512 5", "4 0 0 | 4 0 0 None | 4 0 0 0 0 0"),
+    ("o 3 1 4096 4 0 0 5 5", "0 0 3 | 0 0 3 Left | 6 0 0 0 0 0"),
+    (f"o 65 1 7 515 512 {words(*[0] * 514)}", "1 0 0 | 1 0 0 None | 1 0 0 0 0 0"),
+    ("o 65 1 7 3 0 0 512", "1 0 0 | 1 0 0 None | 1 0 0 0 0 0"),
+    (f"o 65 1 4096 {MANY}", "2 0 0 | 2 0 0 None | 2 0 0 0 0 0"),
+    ("o -1 1 7 2 512 0", "3 0 0 | 2 0 0 None | 3 0 0 0 0 0"),
+    ("o 3 1 7 2 0 -512", "4 0 0 | 2 0 0 None | 4 0 0 0 0 0"),
+    ("o 65 1 7 4 0 0 512 5", "3 0 0 | 3 0 0 None | 3 0 0 0 0 0"),
+    ("o 65 1 4096 4 0 0 5 5", "3 0 0 | 3 0 0 None | 3 0 0 0 0 0"),
+    ("o 3 1 4096 4 0 0 -512 5", "4 0 0 | 4 0 0 None | 4 0 0 0 0 0"),
+]
+
+# A walk at place 1 that has gathered 5 to 9: past the end it hands that out; refused, it is as it was.
+NEXT = [
+    ("v 3 0 7 4 0 0 5 5", "0 true 7 5 9 | 1 3 7 0 0"),
+    ("v 3 0 7 3 0 0 5", "1 false 0 0 0 | 1 3 7 5 9"),
+    (f"v 3 0 7 {MANY}", "2 false 0 0 0 | 1 3 7 5 9"),
+    ("v 65 0 7 4 0 0 5 5", "3 false 0 0 0 | 1 65 7 5 9"),
+    ("v 3 0 7 4 0 0 512 5", "4 false 0 0 0 | 1 3 7 5 9"),
+    ("v 3 0 4096 4 0 0 5 5", "6 false 0 0 0 | 1 3 4096 5 9"),
+    ("v 65 0 7 3 0 0 5", "1 false 0 0 0 | 1 65 7 5 9"),
+    (f"v -1 0 4096 {MANY}", "2 false 0 0 0 | 1 -1 4096 5 9"),
+    ("v 65 0 4096 4 0 0 512 5", "3 false 0 0 0 | 1 65 4096 5 9"),
+    ("v 3 0 -4096 4 0 512 5 5", "4 false 0 0 0 | 1 3 -4096 5 9"),
+]
+
+# Handed out and what is left; an empty span stays, whatever its columns are.
+TAKEN = [
+    ("y 7 2 5", "0 true 7 2 5 | 7 0 0"),
+    ("y -4095 -4095 4096", "0 true -4095 -4095 4096 | -4095 0 0"),
+    ("y 7 5 5", "0 false 0 0 0 | 7 5 5"),
+    ("y 7 5000 4999", "0 false 0 0 0 | 7 5000 4999"),
+    ("y 4096 2 5", "6 false 0 0 0 | 4096 2 5"),
+    ("y -4096 5 5", "6 false 0 0 0 | -4096 5 5"),
+    ("y 7 -4096 5", "7 false 0 0 0 | 7 -4096 5"),
+    ("y 7 0 4097", "7 false 0 0 0 | 7 0 4097"),
+    ("y 4096 0 4097", "6 false 0 0 0 | 4096 0 4097"),
+]
+
+# A bevel's filler line from (0,0) to (4,0) has its midpoint at (2,0); a join refused with 5 is so by each entry, whatever its kind.
+LINES = [
+    ("g 1 0 0 2 2 4 0 2 2", "0 0 4 0 | 2 4 0 2 0 2 0 2 2 | 2 0 0 2 0 2 0 2 2"),
+    ("g 7 3 -1 3 1 3 -1 3 1", "none | 1 3 -1 3 1 | 1 3 -1 3 1"),
+] + [
+    (words("g", kind, *corners), "refused 5 | refused 5 | refused 5")
+    for kind, corners in (
+        (0, (4096, 0, 0, 0, 0, 0, 0, 0)),
+        (1, (0, -4096, 0, 0, 0, 0, 0, 0)),
+        (2, (0, 0, 4096, 0, 0, 0, 0, 0)),
+        (3, (0, 0, 0, -4096, 0, 0, 0, 0)),
+        (4, (0, 0, 0, 0, 4096, 0, 0, 0)),
+        (5, (0, 0, 0, 0, 0, -4096, 0, 0)),
+        (6, (0, 0, 0, 0, 0, 0, 4096, 0)),
+        (7, (0, 0, 0, 0, 0, 0, 0, -4096)),
+        (1, (4096, 0, 0, 0, 0, 0, 0, 4096)),
+    )
+]
+
+# A coordinate and a row, a coordinate and a column, all three; rows that differ and a column.
+TWO_FAULTS = [
+    ("m 4096 0 3 3 4096 2 6", "refused 4"),
+    ("m 0 0 3 -4096 2 2 5000", "refused 4"),
+    ("m 0 5000 3 3 -4096 -4096 6", "refused 4"),
+    ("u 1 2 6 2 5 5000", "refused 6"),
+    ("u 4 -4096 6 5 5 9", "refused 6"),
+]
+
+NO_POINTS = "0 0 -7 -7 -7 -7 -7 -7"
+NO_ROUTE = f"0 false 0 0 false | {NO_POINTS}"
+WRONG = "9 0 | 9 false 0 0 false | 9 0 -7 -7 -7 -7 -7 -7"
+
+
+def asked(k, *hexadecimal):
+    return words("h", k, *bytes.fromhex("".join(hexadecimal)))
+
+
+def of_width(low_high):
+    """Document 01's file with another width."""
+    return asked(0, "0100 1400 0C00 0200", low_high, "0000 0000 0000 0300 0000")
+
+
+# Document 01's file; its widths from 64 on; a route that it does not have; four points, for which six numbers are too few; files that
+# are wrong, some of them twice.
+FILES = [
+    (of_width("0300"), "0 1 | 0 true 2 3 false | 0 4 0 0 3 0 -7 -7"),
+    (of_width("4100"), "0 1 | 0 true 2 65 false | 0 4 0 0 3 0 -7 -7"),
+    (of_width("FF7F"), "0 1 | 0 true 2 32767 false | 0 4 0 0 3 0 -7 -7"),
+    (of_width("0080"), "0 1 | 0 true 2 32768 false | 0 4 0 0 3 0 -7 -7"),
+    (of_width("FFFF"), "0 1 | 0 true 2 65535 false | 0 4 0 0 3 0 -7 -7"),
+    (asked(1, "0100 1400 0C00 0200 0300 0000 0000 0000 0300 0000"), f"0 1 | {NO_ROUTE}"),
+    (asked(999, "0100 1400 0C00 0200 0300 0000 0000 0000 0300 0000"), f"0 1 | {NO_ROUTE}"),
+    (asked(0, "0000 0400"), f"0 0 | {NO_ROUTE}"),
+    (
+        asked(1, "0200 1C00 1400 0000 0000 0000 1400 0200 4000 0100 0080 FFFF FF7F 0001"),
+        "0 2 | 0 true 2 64 true | 0 4 -32768 -1 32767 256 -7 -7",
+    ),
+    (
+        asked(0, "0100 1C00 0C00 0400 0300 0100 0000 0000 0100 0000 0100 0100 0000 0100"),
+        "0 1 | 0 true 4 3 true | 8 0 -7 -7 -7 -7 -7 -7",
+    ),
+    (asked(0, ""), WRONG),
+    (asked(0, "0000 04"), WRONG),
+    (asked(0, "0000 0500"), WRONG),
+    (asked(0, "0100 1400 0C00 0200 0300 0200 0000 0000 0300 0000"), WRONG),
+    (asked(0, "0100 1400 0800 0200 0300 0000 0000 0000 0300 0000"), WRONG),
+    (asked(0, "0100 1400 0C00 0300 0300 0000 0000 0000 0300 0000"), WRONG),
+    (asked(1, "0100 1500 0C00 0200 0300 0200 0000 0000 0300 0000"), WRONG),
+    (asked(0, "0100 1C00 0C00 0400 0300 0200 0000 0000 0100 0000 0100 0100 0000 0100"), WRONG),
+]
+
+WORKED = STARTS + NEXT + TAKEN + LINES + FILES + TWO_FAULTS
+CLASSES = {
+    "starts of the three walks": STARTS,
+    "the polyline's next": NEXT,
+    "try_take": TAKEN,
+    "filler lines and caps, each entry by itself": LINES,
+    "entries of a route file": FILES,
+    "two faults of lines and spans": TWO_FAULTS,
+}
+
+
+def questions():
+    return [(name, question) for name, pairs in CLASSES.items() for question, _ in pairs]
+
+
+def stored_form(question, answer):
+    """A file is stored in hex, `-` if it is empty."""
+    kind, *numbers = question.split()
+    if kind != "h":
+        return question, answer
+    k, *data = map(int, numbers)
+    return words("h", k, bytes(data).hex() or "-"), answer
