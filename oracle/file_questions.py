@@ -16,6 +16,8 @@ from route_files import MOST_BYTES
 SEED = 65535
 KINDS = "F"
 
+# The file that README draws.
+SAMPLE = driver.ROOT / "samples" / "panel.route"
 # The example of document 01, and a file without routes.
 EXAMPLE = bytes.fromhex("0100 1400 0C00 0200 0300 0000 0000 0000 0300 0000")
 
@@ -350,6 +352,7 @@ def questions():
         "random": (random_file(rng) for _ in range(50)),
         "damaged": damaged(rng),
         "the longest files": longest(),
+        "the sample": [SAMPLE.read_bytes()],
     }
     asked = {name: map(ask, files) for name, files in classes.items()}
     return listed({"worked examples": (question for question, _ in WORKED), **asked})

@@ -1,12 +1,12 @@
--- `corners_run::squared_distance` is safe: points within 4,095 have differences whose squares 64 bits hold. Assumes nothing.
+-- `test_corners::squared_distance` is safe: points within 4,095 have differences whose squares 64 bits hold. Assumes nothing.
 use mathlib.Core.Path.{sym, _∙_}
 use borrow.Author.Needs.{needs}
 use lib.Dec.{lit≤}
 use Rattle.shapes.specs.Limits.{cornerLimit}
 use Rattle.shapes.specs.Shape.{Near}
 use Rattle.shapes.proofs.Laws.{true-near, near-more, near-minus}
-use Rattle.corners_run.proofs.squared_distance.Statement.{statement}
-use Rattle.corners_run.proofs.squared_distance.Tie as tie
+use Rattle.test_corners.proofs.squared_distance.Statement.{statement}
+use Rattle.test_corners.proofs.squared_distance.Tie as tie
 
 a-near : (c : tie.Then2) → Near cornerLimit (c .before .before .before .before .args .a)
 a-near c = true-near cornerLimit _ (sym (c .before .before .before .is-near .ensures) ∙ c .before .before .if1 .taken)

@@ -1,10 +1,9 @@
-//! 01's corners that are run and not proved: squared miters of 36 and 37 at width 3, widths 64 and 65, coordinates 511 and 512,
-//! 32 and 33 runs. Here are the questions alone; what must be written stands in `stdout`, and comes from another calculation
+//! 01's corners that are run and not proved: squared miters of 36 and 37 at width 3, widths 64 and 65, coordinates 511 and 512 with
+//! either sign at each place, 32 and 33 runs. Here are the questions alone; what must be written stands in `stdout`, and comes from another calculation
 //! (oracle/README.md).
 ghost use Prim.Native.Nat.{_≤_, _<_};
 ghost use lib.ListN.{length};
 use board::Board;
-use board::Listed;
 use coordinates::point_count;
 use extents::Answer;
 use extents::extents;
@@ -13,14 +12,6 @@ use intersection_params::crossing;
 use line_join::Joined;
 use line_join::Kind;
 use line_join::from_points;
-use replay_joins::say_join;
-use replay_text::say;
-use replay_text::say_count;
-use replay_text::say_line;
-use replay_text::say_next;
-use replay_text::say_number;
-use replay_text::say_numbers;
-use replay_text::say_refused;
 use shapes::Line;
 use shapes::Offset;
 use shapes::Point;
@@ -30,6 +21,14 @@ use shapes::inner::is_near;
 use shapes::inner::minus;
 use shapes::inner::squared_length;
 use shapes::limits::CORNER;
+use test_joins::say_join;
+use test_text::say_line;
+use test_text::say_numbers;
+use writing::say;
+use writing::say_count;
+use writing::say_next;
+use writing::say_number;
+use writing::say_refused;
 
 fn main() {
     ask_miters();
@@ -52,15 +51,22 @@ fn ask_widths() {
     ask_bend(65, [0, 0, 60, 0, 60, 60]);
 }
 
-/// Every coordinate at its limit, and then each of them one beyond.
+/// Every coordinate at its limit, with either sign, and then each of them beyond it, on either side.
 fn ask_coordinates() {
     ask_bend(1, [511, -511, -511, -511, -511, 511]);
+    ask_bend(1, [-511, 511, 511, 511, 511, -511]);
     ask_bend(1, [512, -511, -511, -511, -511, 511]);
+    ask_bend(1, [-512, -511, -511, -511, -511, 511]);
+    ask_bend(1, [511, 512, -511, -511, -511, 511]);
     ask_bend(1, [511, -512, -511, -511, -511, 511]);
+    ask_bend(1, [511, -511, 512, -511, -511, 511]);
     ask_bend(1, [511, -511, -512, -511, -511, 511]);
+    ask_bend(1, [511, -511, -511, 512, -511, 511]);
     ask_bend(1, [511, -511, -511, -512, -511, 511]);
+    ask_bend(1, [511, -511, -511, -511, 512, 511]);
     ask_bend(1, [511, -511, -511, -511, -512, 511]);
     ask_bend(1, [511, -511, -511, -511, -511, 512]);
+    ask_bend(1, [511, -511, -511, -511, -511, -512]);
 }
 
 /// One column more than a board has room for; then two runs are joined, and the column has room.
@@ -151,7 +157,7 @@ fn ask_offer(board: Board, start: i64, end: i64) -> Board {
 fn ask_list(board: Board, out: &mut [i64]) {
     let listed = board::list(board, &mut *out);
     say(b"board");
-    say_listed(listed, out);
+    say_listed(listed.refusal, listed.count, listed.total, out);
 }
 
 /// A row that every stroke of a zigzag meets, with a list for 32 runs, one that is a number shorter and one for 33; and all rows.
@@ -175,7 +181,7 @@ fn ask_row(coordinates: &[i64], width: i64, row: i64, out: &mut [i64]) {
     let listed = route::row(coordinates, width, false, row, &mut *out);
     say(b"row");
     say_next(row);
-    say_listed(listed, out);
+    say_listed(listed.refusal, listed.count, listed.total, out);
 }
 
 /// Strokes between rows 0 and 4, each four columns on, as far as the list goes.
@@ -318,17 +324,17 @@ fn say_edges(edges: Answer) {
 }
 
 /// Writes how long the list is, and all that stands in it after an accepted listing.
-fn say_listed(listed: Listed, out: &[i64]) {
+fn say_listed(refusal: u64, count: usize, total: i64, out: &[i64]) {
     say(b", list of ");
     say_count(out.len() as u64);
     say(b": ");
-    if 0 < listed.refusal {
-        say_refused(listed.refusal);
+    if refusal != 0 {
+        say_refused(refusal);
     } else {
         say(b"runs ");
-        say_count(listed.count as u64);
+        say_count(count as u64);
         say(b", columns ");
-        say_number(listed.total);
+        say_number(total);
         say(b":");
         say_numbers(out);
     }

@@ -1,11 +1,11 @@
--- `replay_rows::print_all` ends: each turn moves on in the text. Assumes nothing.
+-- `test_rows::print_all` ends: each turn moves on in the text. Assumes nothing.
 use Prim.Native.Nat.{_-_}
 use native.Mathlib.Omega.{arith}
 use lib.ListN.{length}
 use Rattle.test_numbers.proofs.Laws.{skip-later}
 use borrow.Author.Needs.{needs}
-use Rattle.replay_rows.proofs.print_all.Statement.{statement}
-use Rattle.replay_rows.proofs.print_all.Tie as tie
+use Rattle.test_rows.proofs.print_all.Statement.{statement}
+use Rattle.test_rows.proofs.print_all.Tie as tie
 
 abbrev Inv-loop : tie.InvT-loop
 Inv-loop lines at₀ at = Unit

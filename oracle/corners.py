@@ -1,7 +1,7 @@
 #!/usr/bin/env python3
-"""oracle/corners_run.py: what the program corners_run must write, by the independent calculation.
+"""oracle/corners.py: what the program test_corners must write, by the independent calculation.
 
-The questions are those of crates/corners_run/src/main.rt: document 01's corners marked "Run only".
+The questions are those of crates/test_corners/src/main.rt: document 01's corners marked "Run only".
 """
 
 import sys
@@ -52,10 +52,10 @@ def miter_lines():
 
 
 def one_beyond():
-    """Each coordinate at its limit, one of them one beyond."""
-    for place, at_limit in enumerate(AT_LIMITS):
-        beyond = at_limit + (1 if at_limit > 0 else -1)
-        yield *AT_LIMITS[:place], beyond, *AT_LIMITS[place + 1 :]
+    """Each coordinate at its limit, one of them one beyond, on either side."""
+    for place in range(len(AT_LIMITS)):
+        for beyond in (512, -512):
+            yield *AT_LIMITS[:place], beyond, *AT_LIMITS[place + 1 :]
 
 
 def listed(refusal, runs, room):
@@ -94,6 +94,7 @@ def bends():
     yield 64, RIGHT_ANGLE
     yield 65, RIGHT_ANGLE
     yield 1, AT_LIMITS
+    yield 1, tuple(-number for number in AT_LIMITS)
     for bend in one_beyond():
         yield 1, bend
 

@@ -1,11 +1,11 @@
--- `corners_run::draw_zigzag` is safe and ends. The measure is how many places are left. Assumes nothing.
+-- `test_corners::draw_zigzag` is safe and ends. The measure is how many places are left. Assumes nothing.
 use mathlib.Core.Path.{_≡_, refl, _∙_}
 use Prim.Native.Nat.{_-_}
 use native.Mathlib.Omega.{arith}
 use borrow.Author.Needs.{needs}
 use lib.ListN.{length, length-set}
-use Rattle.corners_run.proofs.draw_zigzag.Statement.{statement}
-use Rattle.corners_run.proofs.draw_zigzag.Tie as tie
+use Rattle.test_corners.proofs.draw_zigzag.Statement.{statement}
+use Rattle.test_corners.proofs.draw_zigzag.Tie as tie
 
 abbrev Inv-loop : tie.InvT-loop
 Inv-loop out₀ i₀ out i = length out ≡ length out₀

@@ -1,9 +1,9 @@
--- `replay_rows::print_line` is safe: no more of its 65,536 bytes are lent than were read. Assumes nothing.
+-- `test_rows::print_line` is safe: no more of its 65,536 bytes are lent than were read. Assumes nothing.
 use mathlib.Core.Path.{sym}
 use lib.Seq.{length-take-le}
 use borrow.Author.Needs.{needs}
-use Rattle.replay_rows.proofs.print_line.Statement.{statement}
-use Rattle.replay_rows.proofs.print_line.Tie as tie
+use Rattle.test_rows.proofs.print_line.Statement.{statement}
+use Rattle.test_rows.proofs.print_line.Tie as tie
 
 slice-aggregate-read-bytes : tie.Need-slice-aggregate-read-bytes
 slice-aggregate-read-bytes c = search needs

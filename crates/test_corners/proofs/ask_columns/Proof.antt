@@ -1,9 +1,9 @@
--- `corners_run::ask_columns` is safe and ends. The measure is how far the columns are from their end. Assumes nothing.
+-- `test_corners::ask_columns` is safe and ends. The measure is how far the columns are from their end. Assumes nothing.
 use Prim.Native.Nat.{_-_}
 use native.Mathlib.Omega.{arith}
 use borrow.Author.Needs.{needs}
-use Rattle.corners_run.proofs.ask_columns.Statement.{statement}
-use Rattle.corners_run.proofs.ask_columns.Tie as tie
+use Rattle.test_corners.proofs.ask_columns.Statement.{statement}
+use Rattle.test_corners.proofs.ask_columns.Tie as tie
 
 abbrev Inv-loop : tie.InvT-loop
 Inv-loop last₀ column₀ last column = Unit
