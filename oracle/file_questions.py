@@ -7,6 +7,7 @@ import random
 from itertools import product
 from typing import NamedTuple
 
+import driver
 import smallest_joins
 from asking import DIRECTIONS, listed, point_within, scaled
 from exact import flat, paired, words

@@ -1,5 +1,6 @@
 -- `row_text::print_file` meets its contract. Assumes nothing.
 use mathlib.Core.Path.{_≡_, _∙_}
+use native.Mathlib.Omega.{arith}
 use borrow.Author.Needs.{needs}
 use lib.Dec.{lit≤}
 use mir.Facts.{toZ-ofZ}
@@ -20,7 +21,7 @@ print-routes-requires : tie.Need-print-routes-requires
 print-routes-requires c κs =
     let e = c .before in
     let r = e .before .before in
-    (file-formed (r .before .before .args .file .now) (r .route-count .ensures) (e .if1 .left), rw (c .panel .ensures) roomy)
+    (file-formed (r .before .before .args .file .now) (r .route-count .ensures) (omega (arith, e .if1 .left)), rw (c .panel .ensures) roomy)
 
 drawn : (c : tie.After-print-routes) → c .print-routes .result ≡ allPixels panel (c .before .before .before .before .before .before .args .file .now)
 drawn c = cc

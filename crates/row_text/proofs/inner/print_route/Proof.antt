@@ -1,5 +1,6 @@
 -- `row_text::inner::print_route` meets its contract: runs are printed of a route that nothing refuses. Assumes nothing.
 use mathlib.Core.Path.{_≡_, sym, ap, _∙_}
+use native.Mathlib.Omega.{arith}
 use borrow.Author.Needs.{needs}
 use mir.Facts.{toZ-ofZ}
 use mir.Syntax.{w64}
@@ -58,7 +59,7 @@ returns-3 c =
     let p = o .before .before .before .before in
     let s = p .before in
     toZ-ofZ {w = w64} {z = c .print-rows .result} (search needs) ∙ c .print-rows .ensures ∙ ap (litIn (p .prepare .result .joins)) (o .rows-of .ensures)
-    ∙ pixels-drawn (s .pre) (s .args .closed) (s .args .coordinates .now) (s .args .width) (free (o .before .before)) (sym (room r) ∙ c .before .if2 .left)
+    ∙ pixels-drawn (s .pre) (s .args .closed) (s .args .coordinates .now) (s .args .width) (free (o .before .before)) (omega (arith, room r, c .before .if2 .left))
 
 pub print-route-spec : {M : Type 1} → statement M
 print-route-spec =
