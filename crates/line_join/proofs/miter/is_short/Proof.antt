@@ -6,7 +6,7 @@ use Prim.Native.Nat.{_+_, _*_, _^_}
 use borrow.Author.Needs.{needs}
 use lib.Dec.{lit≤}
 use lib.IntN.{ℤ, pos, natAbs, _-ℤ_, _*ℤ_}
-use lib.Signed.{ltZ, leZ}
+use lib.Signed.{ltZ}
 use mir.Facts.{toZ-ofZ}
 use mir.Syntax.{w64}
 use mir.Val.{toZ, ofZ}
@@ -26,9 +26,6 @@ use Rattle.line_join.proofs.miter.is_short.Tie as tie
 -- a component that passed the test
 passed : {w z : ℤ} → Thin w → ltZ (pos 2 *ℤ w) (pos (natAbs z)) ≡ false → Within z 128
 passed {w} {z} h e = record { bound = omega (linear, times 2 w, h .high) }
-
-both : {x y u v : ℤ} → x ≡ u → y ≡ v → leZ x y ≡ leZ u v
-both p q = cc
 
 -- the numbers of the function, in their bits
 module _ (s : tie.Start) where
@@ -109,9 +106,10 @@ returns-3 : tie.Need-returns-3
 unfolding reaches squaredLength dotProduct minus
 returns-3 c =
     let e = c .before in
-    both
-    (hold-add (hold-mul (short-x e) (short-x e) tt) (hold-mul (short-y e) (short-y e) tt) tt .is)
-    (toZ-ofZ {w = w64} {z = c .limit .result} (search needs) ∙ c .limit .ensures ∙ ap miterLimit (thin-held (began e .pre .1 .1) .is))
+    rw (
+      hold-add (hold-mul (short-x e) (short-x e) tt) (hold-mul (short-y e) (short-y e) tt) tt .is,
+      toZ-ofZ {w = w64} {z = c .limit .result} (search needs) ∙ c .limit .ensures ∙ ap miterLimit (thin-held (began e .pre .1 .1) .is),
+    )
 
 pub is-short-spec : {M : Type 1} → statement M
 is-short-spec =
