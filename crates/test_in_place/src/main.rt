@@ -46,14 +46,16 @@ fn show(place: usize, step: Step, board: Board) -> Board {
     after
 }
 
+fn say_run(run: Run) {
+    say_next(run.start);
+    say_next(run.end);
+}
+
 fn say_records(records: [Run; 4]) {
-    let mut i: usize = 0;
-    while i < 4 {
-        let run = records[i];
-        say_next(run.start);
-        say_next(run.end);
-        i += 1;
-    }
+    say_run(records[0]);
+    say_run(records[1]);
+    say_run(records[2]);
+    say_run(records[3]);
 }
 
 // The board's line: refusal, runs and columns, then the numbers, which were -7, and the records, which were -8 to -9.
@@ -73,36 +75,57 @@ fn list(board: Board) {
     say(b"\n");
 }
 
-// `steps` steps of an open walk, and the listing.
-fn walk_open(coordinates: &[i64], start: thick_segment_iter::Walk, row: i64, steps: usize) {
-    let mut walk = start;
-    let mut board = board::fresh(row).board;
-    let mut left = steps;
-    while 0 < left {
-        let stepped = owners::open_step(coordinates, walk);
-        let step = stepped.step;
-        walk = stepped.walk;
-        board = show(walk.place, step, board);
-        left -= 1;
-    }
-    list(board);
+enum Walker {
+    Open(thick_segment_iter::Walk),
+    Closed(closed_thick_segment_iter::Walk),
 }
 
-// `steps` steps of a closed walk, and the listing.
-fn walk_closed(
-    coordinates: &[i64],
-    start: closed_thick_segment_iter::Walk,
-    row: i64,
-    steps: usize,
-) {
-    let mut walk = start;
+/// What a step answers, and the walk as it was left, at its place.
+struct Left {
+    step: Step,
+    place: usize,
+    walker: Walker,
+}
+
+fn open_step(coordinates: &[i64], walk: thick_segment_iter::Walk) -> Left {
+    let stepped = owners::open_step(coordinates, walk);
+    let step = stepped.step;
+    let after = stepped.walk;
+    Left {
+        step,
+        place: after.place,
+        walker: Walker::Open(after),
+    }
+}
+
+fn closed_step(coordinates: &[i64], walk: closed_thick_segment_iter::Walk) -> Left {
+    let stepped = owners::closed_step(coordinates, walk);
+    let step = stepped.step;
+    let after = stepped.walk;
+    Left {
+        step,
+        place: after.place,
+        walker: Walker::Closed(after),
+    }
+}
+
+fn step(coordinates: &[i64], walker: Walker) -> Left {
+    match walker {
+        Walker::Open(walk) => open_step(coordinates, walk),
+        Walker::Closed(walk) => closed_step(coordinates, walk),
+    }
+}
+
+// `steps` steps of a walk, and the listing.
+fn walk(coordinates: &[i64], start: Walker, row: i64, steps: usize) {
+    let mut walker = start;
     let mut board = board::fresh(row).board;
     let mut left = steps;
     while 0 < left {
-        let stepped = owners::closed_step(coordinates, walk);
-        let step = stepped.step;
-        walk = stepped.walk;
-        board = show(walk.place, step, board);
+        let stepped = step(coordinates, walker);
+        let told = stepped.step;
+        walker = stepped.walker;
+        board = show(stepped.place, told, board);
         left -= 1;
     }
     list(board);
@@ -110,27 +133,33 @@ fn walk_closed(
 
 // An open walk from its start on, for each of its segments and twice at the end.
 fn open_route(coordinates: &[i64], width: i64, row: i64) {
-    let walk = thick_segment_iter::start(coordinates, width).walk;
-    walk_open(coordinates, walk, row, coordinates.len() / 2 + 1);
+    let begun = thick_segment_iter::start(coordinates, width).walk;
+    walk(
+        coordinates,
+        Walker::Open(begun),
+        row,
+        coordinates.len() / 2 + 1,
+    );
 }
 
 // A closed walk likewise.
 fn closed_route(coordinates: &[i64], width: i64, offset: Offset, row: i64) {
-    let walk = closed_thick_segment_iter::start(coordinates, width, offset).walk;
-    walk_closed(coordinates, walk, row, coordinates.len() / 2 + 2);
+    let begun = closed_thick_segment_iter::start(coordinates, width, offset).walk;
+    walk(
+        coordinates,
+        Walker::Closed(begun),
+        row,
+        coordinates.len() / 2 + 2,
+    );
 }
 
 // A walk that is refused stays where it is.
 fn refused_walk(coordinates: &[i64]) {
-    walk_open(
-        coordinates,
-        thick_segment_iter::Walk {
-            place: 2,
-            width: 65,
-        },
-        20,
-        2,
-    );
+    let wide = thick_segment_iter::Walk {
+        place: 2,
+        width: 65,
+    };
+    walk(coordinates, Walker::Open(wide), 20, 2);
 }
 
 fn main() {

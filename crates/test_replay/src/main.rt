@@ -51,19 +51,19 @@ fn answer(questions: &[u8], at: usize) {
 }
 
 fn answer_kind(kind: u8, questions: &[u8], at: usize) {
-    if is_among(kind, b"edscn") {
+    if is_among(kind, b"edscn ") {
         return lines::answer(kind, questions, at);
     }
-    if is_among(kind, b"xpt") {
+    if is_among(kind, b"xpt ") {
         return strokes::answer(kind, questions, at);
     }
-    if is_among(kind, b"azjfg") {
+    if is_among(kind, b"azjfg ") {
         return joins::answer(kind, questions, at);
     }
-    if is_among(kind, b"krmuy") {
+    if is_among(kind, b"krmuy ") {
         return segments::answer(kind, questions, at);
     }
-    if is_among(kind, b"OCNMov") {
+    if is_among(kind, b"OCNMov ") {
         return walks::answer(kind, questions, at);
     }
     if kind == b'h' {
@@ -71,13 +71,7 @@ fn answer_kind(kind: u8, questions: &[u8], at: usize) {
     }
 }
 
+/// Whether a letter is one of those that a space ends.
 fn is_among(letter: u8, letters: &[u8]) -> bool {
-    let mut i = 0;
-    while i < letters.len() {
-        if letters[i] == letter {
-            return true;
-        }
-        i += 1;
-    }
-    false
+    skip_past(letters, 0, letter) < letters.len()
 }

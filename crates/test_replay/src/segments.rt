@@ -11,6 +11,7 @@ use test_text::line_at;
 use test_text::say_bool;
 use test_text::say_fields;
 use test_text::say_line;
+use test_text::say_numbers;
 use test_text::say_point;
 use thick_segment::Boxed;
 use thick_segment::Edged;
@@ -188,21 +189,19 @@ fn say_perimeter(segment: Segment) {
 
 /// The first n of six lines.
 fn say_rows(lines: [[i64; 4]; 6], n: usize) {
-    let mut i: usize = 0;
-    while i < 6 {
-        if i < n {
-            say_row(lines[i]);
-        }
-        i += 1;
-    }
+    say_row(0 < n, lines[0]);
+    say_row(1 < n, lines[1]);
+    say_row(2 < n, lines[2]);
+    say_row(3 < n, lines[3]);
+    say_row(4 < n, lines[4]);
+    say_row(5 < n, lines[5]);
 }
 
-/// Four coordinates.
-fn say_row(row: [i64; 4]) {
-    say_next(row[0]);
-    say_next(row[1]);
-    say_next(row[2]);
-    say_next(row[3]);
+/// Four coordinates, where they are to be told.
+fn say_row(told: bool, row: [i64; 4]) {
+    if told {
+        say_numbers(&row);
+    }
 }
 
 fn say_extended(extended: Extended) {

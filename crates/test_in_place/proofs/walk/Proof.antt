@@ -1,13 +1,13 @@
--- `test_in_place::walk_closed` is safe and ends. The measure is how many steps are left. Assumes nothing.
+-- `test_in_place::walk` is safe and ends. The measure is how many steps are left. Assumes nothing.
 use borrow.Author.Needs.{needs}
-use Rattle.test_in_place.proofs.walk_closed.Statement.{statement}
-use Rattle.test_in_place.proofs.walk_closed.Tie as tie
+use Rattle.test_in_place.proofs.walk.Statement.{statement}
+use Rattle.test_in_place.proofs.walk.Tie as tie
 
 abbrev Inv-loop : tie.InvT-loop
-Inv-loop coordinates row steps walk₀ board₀ left₀ walk board left = Unit {0}
+Inv-loop coordinates row steps walker₀ board₀ left₀ walker board left = Unit {0}
 
 abbrev μ-loop : tie.MeasureT-loop
-μ-loop coordinates row steps walk₀ board₀ left₀ walk board left = left
+μ-loop coordinates row steps walker₀ board₀ left₀ walker board left = left
 
 fresh-requires : tie.Need-fresh-requires Inv-loop μ-loop
 fresh-requires c κs = tt
@@ -15,8 +15,8 @@ fresh-requires c κs = tt
 loop-holds : tie.Need-loop-holds Inv-loop μ-loop
 loop-holds c = tt
 
-closed-step-requires : tie.Need-closed-step-requires Inv-loop μ-loop
-closed-step-requires c κs = tt
+step-requires : tie.Need-step-requires Inv-loop μ-loop
+step-requires c κs = tt
 
 show-requires : tie.Need-show-requires Inv-loop μ-loop
 show-requires c κs = tt
@@ -36,15 +36,15 @@ list-requires c κs = tt
 returns : tie.Need-returns Inv-loop μ-loop
 returns c = tt
 
-pub walk-closed-spec : {M : Type 1} → statement M
-walk-closed-spec =
+pub walk-spec : {M : Type 1} → statement M
+walk-spec =
     tie.close
     (tie.spec
     Inv-loop
     μ-loop
     fresh-requires
     loop-holds
-    closed-step-requires
+    step-requires
     show-requires
     sub-left
     loop-less
