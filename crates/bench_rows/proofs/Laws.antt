@@ -10,7 +10,7 @@ use lib.ListN.{length, getD, drop}
 use lib.Seq.{drop-cons, drop-length}
 use Rattle.shapes.specs.declared.limits.Limits.{Limits}
 use Rattle.route.specs.declared.Listing.{Listing}
-use Rattle.route.specs.Answers.{drawRefusal, notListed, rowAnswer, rowTo}
+use Rattle.route.specs.Answers.{drawRefusal, noListing, rowAnswer, rowTo}
 use Rattle.route.proofs.Chains.{row-stopped}
 use Rattle.bench_rows.specs.Drawn.{lastOf, afterAll, lastColumns, rowsTo}
 
@@ -22,7 +22,7 @@ module _ (limits : Limits) (closed : Bool) (cs : List ℤ) (w : ℤ) (rows out�
       (lastOf (rowAnswer limits closed cs w) (length out₀) last (drop i rows) .total ≡ lastColumns limits closed cs w rows (length out₀))
       × (afterAll (rowTo limits closed cs w) out (drop i rows) ≡ rowsTo limits closed cs w rows out₀)
 
-  pub left-all : {last : Listing} → last ≡ notListed 0 → Left 0 last out₀
+  pub left-all : {last : Listing} → last ≡ noListing 0 → Left 0 last out₀
   unfolding lastColumns rowsTo
   left-all e = (rw e, refl)
 
@@ -55,4 +55,4 @@ module _ (limits : Limits) (closed : Bool) (cs : List ℤ) (w : ℤ) {m : ℕ} (
 
   pub nothing-drawn : (rows out : List ℤ) → (lastColumns limits closed cs w rows (length out) ≡ pos 0) × (rowsTo limits closed cs w rows out ≡ out)
   unfolding lastColumns rowsTo
-  nothing-drawn rows out = (none-listed rows out (notListed 0) refl, none-written rows out)
+  nothing-drawn rows out = (none-listed rows out (noListing 0) refl, none-written rows out)

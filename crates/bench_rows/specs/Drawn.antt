@@ -5,7 +5,7 @@ use Prim.Native.Nat.{ℕ}
 use lib.IntN.{ℤ}
 use Rattle.shapes.specs.declared.limits.Limits.{Limits}
 use Rattle.route.specs.declared.Listing.{Listing}
-use Rattle.route.specs.Answers.{notListed, rowAnswer, rowTo}
+use Rattle.route.specs.Answers.{noListing, rowAnswer, rowTo}
 
 -- the answer of the last row, where the list has `n` numbers; and what the list holds after all
 unfoldable pub lastOf : (ℤ → ℕ → Listing) → ℕ → Listing → List ℤ → Listing
@@ -18,7 +18,7 @@ afterAll row out (y ∷ ys) = afterAll row (row y out) ys
 
 -- the number of the last row's columns
 unfoldable pub lastColumns : Limits → Bool → List ℤ → ℤ → List ℤ → ℕ → ℤ
-lastColumns limits closed cs w rows n = lastOf (rowAnswer limits closed cs w) n (notListed 0) rows .total
+lastColumns limits closed cs w rows n = lastOf (rowAnswer limits closed cs w) n (noListing 0) rows .total
 
 unfoldable pub rowsTo : Limits → Bool → List ℤ → ℤ → List ℤ → List ℤ → List ℤ
 rowsTo limits closed cs w rows out = afterAll (rowTo limits closed cs w) out rows

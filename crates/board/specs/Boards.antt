@@ -8,7 +8,7 @@ use lib.ListN.{length, take, drop, replicate}
 use Rattle.whole.specs.Number.{Within, isWithin, eqZ}
 use Rattle.shapes.specs.Limits.{boardRuns}
 use Rattle.shapes.specs.Refusals.{rowRefused, columnRefused, roomRefused}
-use Rattle.shapes.specs.Spans.{isEmpty, isSound as isSpanSound}
+use Rattle.shapes.specs.Spans.{isEmpty, isSpanSound}
 use Rattle.shapes.specs.declared.Span.{Span}
 use Rattle.board.specs.declared.Run.{Run}
 use Rattle.board.specs.declared.Board.{Board}

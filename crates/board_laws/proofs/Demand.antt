@@ -19,7 +19,7 @@ use Rattle.whole.proofs.Linear.{opp}
 use Rattle.whole.proofs.Orders.{ordered}
 use Rattle.whole.proofs.Spans.{within-of}
 use Rattle.shapes.specs.Limits.{boardRuns}
-use Rattle.shapes.specs.Spans.{spanOf, isEmpty, Sound as SpanSound}
+use Rattle.shapes.specs.Spans.{spanOf, isEmpty, SpanSound}
 use Rattle.shapes.specs.declared.Span.{Span}
 use Rattle.board.specs.declared.Run.{Run}
 use Rattle.board.specs.declared.Board.{Board}

@@ -19,7 +19,7 @@ use Rattle.whole.proofs.Orders.{ordered, eqZ-iff}
 use Rattle.whole.proofs.Spans.{within-low, within-high}
 use Rattle.whole.proofs.Tests.{and-iff, clash, else-false}
 use Rattle.shapes.specs.Limits.{boardRuns}
-use Rattle.shapes.specs.Spans.{Covers, isEmpty, Sound as SpanSound, isSound as isSpanSound}
+use Rattle.shapes.specs.Spans.{Covers, isEmpty, SpanSound, isSpanSound}
 use Rattle.shapes.specs.declared.Span.{Span}
 use Rattle.shapes.proofs.Columns.{covers-some, covers-first, covers-last, sound-exactly}
 use Rattle.board.specs.declared.Run.{Run}

@@ -10,7 +10,7 @@ use lib.ListN.{length, drop}
 use Rattle.whole.specs.Number.{Within}
 use Rattle.whole.specs.Columns.{between, countFrom}
 use Rattle.shapes.specs.Limits.{boardRuns}
-use Rattle.shapes.specs.Spans.{Sound as SpanSound}
+use Rattle.shapes.specs.Spans.{SpanSound}
 use Rattle.shapes.specs.declared.Span.{Span}
 use Rattle.board.specs.declared.Run.{Run}
 use Rattle.board.specs.declared.Board.{Board}

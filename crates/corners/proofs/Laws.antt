@@ -9,7 +9,7 @@ use Rattle.shapes.specs.declared.Point.{Point}
 use Rattle.shapes.specs.declared.Line.{Line}
 use Rattle.shapes.specs.Limits.{crossingLimit}
 use Rattle.shapes.specs.Shape.{LineNear, pointOf, lineOf, isNear, isLineNear, minus, quarterTurn, determinant, dotProduct, delta}
-use Rattle.shapes.specs.Spans.{isEmpty, isSound as isSpanSound}
+use Rattle.shapes.specs.Spans.{isEmpty, isSpanSound}
 use Rattle.shapes.proofs.Laws.{true-line-near}
 use Rattle.linear_equation.specs.Equation.{equationOf, distanceOf, isOnSide, areInside, sideAnswer}
 use Rattle.intersection_params.specs.declared.Intersection.the-variants.{Colinear}

@@ -7,10 +7,10 @@ use Rattle.shapes.specs.Strokes.{isThin, strokeRefusal}
 use Rattle.linear_equation.specs.Equation.{equationOf, distanceOf, isOnSide}
 use Rattle.intersection_params.specs.Crossing.{cramerOf, solutionOf, sideOf, drawnOf, crossingOf, nearlyColinear}
 use Rattle.bresenham.specs.Walk.{directionOf, along, parametersAlong, nextAll, previousAll, increased, decreased}
-use Rattle.parallels.specs.Parallels.{bent, turnOf, nextParallel, aimed, thickness, planAlong, planOf, startOf as startOf-parallels, isDone, grown, yieldOf, parallelsFrom, spare, parallels, parallelsOf}
+use Rattle.parallels.specs.Parallels.{bent, turnOf, nextParallel, aimed, thickness, planAlong, planOf, parallelsStart, isDone, grown, yieldOf, parallelsFrom, spare, parallels, parallelsOf}
 use Rattle.extents.specs.Edges.{seen, lasts, closed, extentsOf}
-use Rattle.extents.specs.Entry.{answerOf as extentsAnswer}
-use Rattle.line_join.specs.Answers.{joinValues, madeOf, answerOf, pointsAnswer}
+use Rattle.extents.specs.Entry.{extentsAnswer}
+use Rattle.line_join.specs.Answers.{joinValues, madeOf, joinAnswer, pointsAnswer}
 use Rattle.line_join.specs.Miter.{miterLimit, reaches}
 use Rattle.line_join.specs.Caps.{isCornersNear, isJoinNear}
 use Rattle.line_join.specs.Join.{meet, overlapping, bentAt, bentOf, startOf, joinOf}
@@ -24,5 +24,5 @@ use Rattle.corners.specs.Cases.{Walks, Holds, Every}
 use Rattle.corners.specs.Worked.{evenWidth, oddWidth, turnedRound, bevelLeft, bevelRight, degenerate, outAndBack, worked}
 
 pub worked-hold : Every worked
-unfolding Every Holds worked evenWidth oddWidth turnedRound bevelLeft bevelRight degenerate outAndBack Walks closedStart closedStep afterClosed routeStep stepAt checked stepValues placeFrom isSegmentNear segmentCount segmentOf segmentsOf endPlace joinOn closedJoin bendAt routeRefusal areWithin isMiscounted isOdd pointAt pointCount placeAfter placeBefore joinValues madeOf answerOf pointsAnswer isJoinNear isCornersNear joinOf startOf bentOf bentAt overlapping meet reaches miterLimit crossingOf nearlyColinear drawnOf sideOf solutionOf cramerOf equationOf distanceOf isOnSide rounded quarterTurn determinant extentsAnswer extentsOf closed lasts seen parallelsOf parallels spare parallelsFrom yieldOf grown isDone startOf-parallels planOf planAlong thickness aimed nextParallel turnOf bent increased decreased nextAll previousAll parametersAlong along directionOf strokeRefusal isThin isLineNear isNear isWithin samePoint plus minus dotProduct squaredLength delta
+unfolding Every Holds worked evenWidth oddWidth turnedRound bevelLeft bevelRight degenerate outAndBack Walks closedStart closedStep afterClosed routeStep stepAt checked stepValues placeFrom isSegmentNear segmentCount segmentOf segmentsOf endPlace joinOn closedJoin bendAt routeRefusal areWithin isMiscounted isOdd pointAt pointCount placeAfter placeBefore joinValues madeOf joinAnswer pointsAnswer isJoinNear isCornersNear joinOf startOf bentOf bentAt overlapping meet reaches miterLimit crossingOf nearlyColinear drawnOf sideOf solutionOf cramerOf equationOf distanceOf isOnSide rounded quarterTurn determinant extentsAnswer extentsOf closed lasts seen parallelsOf parallels spare parallelsFrom yieldOf grown isDone parallelsStart planOf planAlong thickness aimed nextParallel turnOf bent increased decreased nextAll previousAll parametersAlong along directionOf strokeRefusal isThin isLineNear isNear isWithin samePoint plus minus dotProduct squaredLength delta
 worked-hold = ((refl, refl), ((refl, refl), ((refl, refl), (refl, (refl, (refl, ((refl, (refl, (refl, refl))), tt)))))))

@@ -19,7 +19,7 @@ use Rattle.shapes.specs.declared.Offset.the-variants.{None}
 use Rattle.parallels.specs.declared.Parallel.{Parallel}
 use Rattle.parallels.specs.Parallels.{parallelsOf}
 use Rattle.extents.specs.declared.Edges.{Edges}
-use Rattle.extents.specs.Entry.{accepted, answerOf as extentsAnswer}
+use Rattle.extents.specs.Entry.{accepted, extentsAnswer}
 use Rattle.line_join.specs.declared.Corners.{Corners}
 use Rattle.line_join.specs.declared.Join.{Join}
 use Rattle.line_join.specs.declared.Joined.the-variants.{Made}

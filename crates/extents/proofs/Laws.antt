@@ -13,7 +13,7 @@ use Rattle.shapes.specs.declared.Line.{Line}
 use Rattle.shapes.specs.declared.Side.{Side}
 use Rattle.shapes.specs.declared.Side.the-variants.{Left, Right}
 use Rattle.shapes.specs.declared.Offset.{Offset}
-use Rattle.shapes.specs.Limits.{widthLimit, lineLimit}
+use Rattle.shapes.specs.Limits.{widthLimit, lineLimit, thickLimit}
 use Rattle.shapes.specs.Shape.{Near, LineNear, plus, minus, delta}
 use Rattle.shapes.specs.Strokes.{Thin}
 use Rattle.shapes.proofs.Laws.{near-more, line-near-more}
@@ -23,7 +23,7 @@ use Rattle.bresenham.specs.Walk.{Fair}
 use Rattle.parallels.specs.declared.Plan.{Plan}
 use Rattle.parallels.specs.declared.Parallels.{Parallels}
 use Rattle.parallels.specs.declared.Parallel.{Parallel}
-use Rattle.parallels.specs.Parallels.{thickLimit, isDone, yieldOf, parallelsFrom, spare, parallels, parallelsOf, planOf, startOf, Sound, Begun, Going}
+use Rattle.parallels.specs.Parallels.{isDone, yieldOf, parallelsFrom, spare, parallels, parallelsOf, planOf, parallelsStart, Sound, Begun, Going}
 use Rattle.parallels.proofs.Steps.{Away}
 use Rattle.parallels.proofs.Laws.{shift, yield-away, going-next, parallels-end, done-at-zero}
 use Rattle.parallels.proofs.Plans.{going-start, sound-plan}
@@ -109,7 +109,7 @@ module _ (k w : ℕ) (l : Line) (width : ℤ) (offset : Offset) (h : LineNear k 
   pub ends-away : EndsAway (l .start) (shift w) (lasts (freshEnds l) (parallelsOf l width offset))
   unfolding parallelsOf
   ends-away =
-      lasts-away w plan sound (l .start) (startOf plan (l .start)) (freshEnds l) (going-start w plan sound (l .start))
+      lasts-away w plan sound (l .start) (parallelsStart plan (l .start)) (freshEnds l) (going-start w plan sound (l .start))
       (record { left-away = fresh-away w (l .start); right-away = fresh-away w (l .start) })
 
   -- over the limits: the edges of a line within k, for a width up to w, are within k + 4w + 3
@@ -143,7 +143,7 @@ none-at-zero l offset h =
     let plan = planOf l (pos 0) offset in
     let sound = sound-plan {w = 0} l (pos 0) offset h (le-refl 0) in
     let going = going-start 0 plan sound (l .start) in
-    let s = startOf plan (l .start) in
+    let s = parallelsStart plan (l .start) in
     parallels-end plan s (done-at-zero s sound going)
 
 -- both edges lie on the line itself

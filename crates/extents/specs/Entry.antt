@@ -19,7 +19,7 @@ abbrev pub accepted : Edges → Answer
 accepted e = record { refusal = 0; left = e .left; right = e .right }
 
 -- the first refusal of 01's table that applies, 3 or 4, else the two edges
-unfoldable pub answerOf : ℕ → Line → ℤ → Offset → Answer
-answerOf k l width offset =
+unfoldable pub extentsAnswer : ℕ → Line → ℤ → Offset → Answer
+extentsAnswer k l width offset =
     let n = strokeRefusal width (isLineNear k l) in
     cond (eqb n 0) (accepted (extentsOf l width offset)) (refusedWith n)

@@ -1,10 +1,10 @@
 //! The edges of a thick line.
 ghost use mathlib.Core.Path.{_≡_};
-ghost use Rattle.shapes.specs.Limits.{lineLimit};
+ghost use Rattle.shapes.specs.Limits.{lineLimit, thickLimit};
 ghost use Rattle.shapes.specs.Shape.{Near, LineNear};
 ghost use Rattle.whole.specs.Number.{Within};
 ghost use Rattle.bresenham.specs.Walk.{stepLimit, Sized};
-ghost use Rattle.parallels.specs.Parallels.{thickLimit, Sound, Begun, parallels};
+ghost use Rattle.parallels.specs.Parallels.{Sound, Begun, parallels};
 ghost use Rattle.extents.specs.Entry.{refusedWith};
 ghost use Rattle.extents.specs.Edges.{freshEnds, seen, lasts, closed, extentsOf};
 use crate::Answer;

@@ -3,7 +3,7 @@ pub mod inner; // inner.rt: the edges of a line that is known to be within its l
 
 ghost use mathlib.Core.Path.{_≡_};
 ghost use Rattle.shapes.specs.Limits.{pointLimit};
-ghost use Rattle.extents.specs.Entry.{answerOf};
+ghost use Rattle.extents.specs.Entry.{extentsAnswer};
 use shapes::Line;
 use shapes::Offset;
 use shapes::Point;
@@ -38,7 +38,7 @@ pub struct Answer {
 
 /// The left and the right edge of a line. Refuses with 3 a width outside 0 to 64, then with 4 a coordinate outside 511.
 pub fn extents(line: Line, width: i64, offset: Offset) -> Answer
-    ensures { λ r. ⌜ r ≡ answerOf pointLimit line width offset ⌝ }
+    ensures { λ r. ⌜ r ≡ extentsAnswer pointLimit line width offset ⌝ }
 {
     let number = stroke_refusal(width, is_line_near(line, POINT));
     if number != 0 {

@@ -31,7 +31,7 @@ use Rattle.line_join.specs.Caps.{JoinNear, isJoinNear, fillerOf, startCa
 use Rattle.line_join.specs.Words.{Refusals}
 use Rattle.line_join.specs.Join.{startOf, endOf, joinOf}
 use Rattle.line_join.specs.Answers.{noCorners, kindNumber, JoinValues, joinValues, FillerValues, fillerValues, CapsValues, capsValues}
-use Rattle.line_join.specs.Answers.{madeOf, answerOf, startAnswer, endAnswer, pointsAnswer, fillerAnswer, startCapsAnswer, endCapsAnswer, degenerateAnswer}
+use Rattle.line_join.specs.Answers.{madeOf, joinAnswer, startAnswer, endAnswer, pointsAnswer, fillerAnswer, startCapsAnswer, endCapsAnswer, degenerateAnswer}
 use Rattle.line_join.proofs.Laws.{start-within, end-within}
 use Rattle.shapes.proofs.Widths.{thin-iff, stroke-none}
 use Rattle.line_join.proofs.Room.{join-near-iff}
@@ -45,13 +45,13 @@ module _ (k : ℕ) (w : ℤ) (near : Bool) {n : ℕ} (is : n ≡ strokeRefusal w
   admitted e = stroke-none w {near = near} (λ e. e, λ e. e) .0 (sym is ∙ e)
 
   -- and the answer is what is made of the join
-  pub answer-made : {r : Joined} (j : Join) → n ≡ 0 → r ≡ madeOf k j → joinValues r ≡ answerOf k w near j
-  unfolding answerOf
+  pub answer-made : {r : Joined} (j : Join) → n ≡ 0 → r ≡ madeOf k j → joinValues r ≡ joinAnswer k w near j
+  unfolding joinAnswer
   answer-made j e f = simp (f, sym is ∙ e)
 
   -- else the answer is n
-  pub answer-refused : (j : Join) → (n ≡ 0 → ⊥) → joinValues (joined.Refused n) ≡ answerOf k w near j
-  unfolding answerOf
+  pub answer-refused : (j : Join) → (n ≡ 0 → ⊥) → joinValues (joined.Refused n) ≡ joinAnswer k w near j
+  unfolding joinAnswer
   answer-refused j h = simp (sym is, ne-eqb n 0 h)
 
 made-by : (j : Join) (t : Bool) → joinValues (cond t (joined.Made j) (joined.Refused 5)) .refusal ≡ cond t 0 5
@@ -71,8 +71,8 @@ chain-by k j true false = refl
 chain-by k j false n = refl
 
 -- 3, 4 and 5 in this order: each exactly when it is the first that holds
-pub refusal-exactly : {P : Type 0} (k : ℕ) (w : ℤ) (near : Bool) (j : Join) → (near ≡ true) ↔ P → Refusals (Thin w) P (JoinNear k j) (answerOf k w near j .refusal)
-unfolding answerOf strokeRefusal
+pub refusal-exactly : {P : Type 0} (k : ℕ) (w : ℤ) (near : Bool) (j : Join) → (near ≡ true) ↔ P → Refusals (Thin w) P (JoinNear k j) (joinAnswer k w near j .refusal)
+unfolding joinAnswer strokeRefusal
 refusal-exactly k w near j exactly =
     let chain = chain-by k j (isThin w) near in
     let thin = thin-iff w in
@@ -118,8 +118,8 @@ chosen-by k j n true true e f = rw (e, f) (record { holds = λ h. refl; fails = 
 chosen-by k j n true false e f = rw (e, f) (record { holds = λ h. absurd (omega arith); fails = λ h. refl })
 chosen-by k j n false s e f = rw e (record { holds = λ h. absurd (eqb-false n 0 e h); fails = λ h. refl })
 
-pub answer-chosen : (k : ℕ) (w : ℤ) (near : Bool) (j : Join) → Chosen (answerOf k w near j .refusal ≡ 0) (answerOf k w near j) (joinValues (joined.Made j)) (refusedJoin (answerOf k w near j .refusal))
-unfolding answerOf
+pub answer-chosen : (k : ℕ) (w : ℤ) (near : Bool) (j : Join) → Chosen (joinAnswer k w near j .refusal ≡ 0) (joinAnswer k w near j) (joinValues (joined.Made j)) (refusedJoin (joinAnswer k w near j .refusal))
+unfolding joinAnswer
 answer-chosen k w near j = chosen-by k j (strokeRefusal w near) (eqb (strokeRefusal w near) 0) (isJoinNear k j) refl refl
 
 -- ---- answers on a join handed in: inside the limit the answer, else refusal 5 with 0 in every other value

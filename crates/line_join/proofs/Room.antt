@@ -17,8 +17,7 @@ use Rattle.shapes.specs.declared.Line.{Line}
 use Rattle.shapes.specs.declared.Side.{Side}
 use Rattle.shapes.specs.declared.Side.the-variants.{Left, Right}
 use Rattle.shapes.specs.declared.Offset.{Offset}
-use Rattle.shapes.specs.Limits.{cornerLimit, widthLimit, lineLimit, strokeLimit}
-use Rattle.parallels.specs.Parallels.{thickLimit}
+use Rattle.shapes.specs.Limits.{cornerLimit, widthLimit, lineLimit, strokeLimit, thickLimit}
 use Rattle.shapes.specs.Shape.{Near, LineNear, pointOf, lineOf, isNear}
 use Rattle.shapes.proofs.Laws.{near-more, line-near-more, line-of-near, near-iff}
 use Rattle.shapes.proofs.Widths.{thin-held, thin-within}

@@ -88,19 +88,19 @@ unfoldable pub madeOf : ℕ → Join → Joined
 madeOf k j = cond (isJoinNear k j) (joined.Made j) (joined.Refused cornerRefused)
 
 -- `near` says whether the points are inside their limit
-unfoldable pub answerOf : ℕ → ℤ → Bool → Join → JoinValues
-answerOf k w near j =
+unfoldable pub joinAnswer : ℕ → ℤ → Bool → Join → JoinValues
+joinAnswer k w near j =
     let n = strokeRefusal w near in
     joinValues (cond (eqb n 0) (madeOf k j) (joined.Refused n))
 
 unfoldable pub startAnswer : Limits → Point → Point → ℤ → Offset → JoinValues
-startAnswer limits a b w o = answerOf (limits .corner) w (isLineNear (limits .point) (lineOf a b)) (startOf a b w o)
+startAnswer limits a b w o = joinAnswer (limits .corner) w (isLineNear (limits .point) (lineOf a b)) (startOf a b w o)
 
 unfoldable pub endAnswer : Limits → Point → Point → ℤ → Offset → JoinValues
-endAnswer limits a b w o = answerOf (limits .corner) w (isLineNear (limits .point) (lineOf a b)) (endOf a b w o)
+endAnswer limits a b w o = joinAnswer (limits .corner) w (isLineNear (limits .point) (lineOf a b)) (endOf a b w o)
 
 unfoldable pub pointsAnswer : Limits → Point → Point → Point → ℤ → Offset → JoinValues
-pointsAnswer limits a b c w o = answerOf (limits .corner) w (isLineNear (limits .point) (lineOf a b) && isNear (limits .point) c) (joinOf a b c w o)
+pointsAnswer limits a b c w o = joinAnswer (limits .corner) w (isLineNear (limits .point) (lineOf a b) && isNear (limits .point) c) (joinOf a b c w o)
 
 -- ---- on a join handed in
 

@@ -25,7 +25,7 @@ use Rattle.bresenham.specs.Walk.{placeOf, parametersAlong}
 use Rattle.bresenham.proofs.Laws.{Larger, larger as larger-of}
 use Rattle.parallels.specs.declared.Plan.{Plan}
 use Rattle.parallels.specs.declared.Flank.{Flank}
-use Rattle.parallels.specs.Parallels.{due, owed, swapped, firstSide, freshFlank, nextParallel, startOf, aimed, turnedBack, thickness, planAlong, planOf, parallelsOf, deltaLimit, larger, Sound, Steady, Reach, Ready, Paid, Going}
+use Rattle.parallels.specs.Parallels.{due, owed, swapped, firstSide, freshFlank, nextParallel, parallelsStart, aimed, turnedBack, thickness, planAlong, planOf, parallelsOf, deltaLimit, larger, Sound, Steady, Reach, Ready, Paid, Going}
 use Rattle.parallels.proofs.Laws.{sided-paid, parallels-most}
 use Rattle.parallels.proofs.Steps.{took, reach-more}
 
@@ -88,8 +88,8 @@ module _ (w : ℕ) (plan : Plan) (h : Sound w plan) (p : Point) where
       let t = took h side fresh-steady in
       side-paid side (nextParallel plan side (freshFlank p) .flank) _ (t .steady) (t .reach (fresh-reach side)) (extra-most (nextParallel plan side (freshFlank p) .extra))
 
-  pub going-start : Going w plan p (startOf plan p)
-  unfolding startOf
+  pub going-start : Going w plan p (parallelsStart plan p)
+  unfolding parallelsStart
   going-start =
       let first = firstSide (plan .offset) in
       record { some = half .some; most = omega (arith, half .most); paid = sided-paid first first (fresh-paid first) (skipped-paid (swapped first)) }
@@ -184,7 +184,7 @@ unfolding parallelsOf
 parallels-few {w} l width offset h small =
     let plan = planOf l width offset in
     let sound = sound-plan l width offset h small in
-    parallels-most w plan sound (l .start) (startOf plan (l .start)) (going-start w plan sound (l .start))
+    parallels-most w plan sound (l .start) (parallelsStart plan (l .start)) (going-start w plan sound (l .start))
 
 -- a line from a point to itself takes its direction from (0,0)-(1,0)
 pub aimed-still : (a : Point) → aimed (lineOf a a) ≡ pointOf (pos 1) (pos 0)

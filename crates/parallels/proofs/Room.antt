@@ -12,7 +12,7 @@ use Rattle.whole.proofs.Linear.{linear, sum, diff, opp, times, abs-le}
 use Rattle.whole.proofs.Steps.{far-near, quotient-most}
 use Rattle.shapes.specs.declared.Point.{Point}
 use Rattle.shapes.specs.declared.Side.{Side}
-use Rattle.shapes.specs.Limits.{lineLimit}
+use Rattle.shapes.specs.Limits.{lineLimit, thickLimit}
 use Rattle.shapes.specs.Shape.{Near}
 use Rattle.shapes.specs.Strokes.{Thin}
 use Rattle.shapes.proofs.Widths.{thin-within}
@@ -22,7 +22,7 @@ use Rattle.bresenham.proofs.Laws.{fair-sized}
 use Rattle.parallels.specs.declared.Plan.{Plan}
 use Rattle.parallels.specs.declared.Flank.{Flank}
 use Rattle.parallels.specs.declared.Parallels.{Parallels}
-use Rattle.parallels.specs.Parallels.{deltaLimit, thickLimit, larger, flankAt, turnOf, startOf, isDone, yieldOf, spare, parallels, Sound, Bounded, Ready, Begun, Paid, Going}
+use Rattle.parallels.specs.Parallels.{deltaLimit, larger, flankAt, turnOf, parallelsStart, isDone, yieldOf, spare, parallels, Sound, Bounded, Ready, Begun, Paid, Going}
 use Rattle.parallels.proofs.Steps.{Away, turned, reach-more}
 use Rattle.parallels.proofs.Laws.{larger-small, going-next, spare-next, parallels-turn}
 use Rattle.parallels.proofs.Plans.{going-start}
@@ -96,5 +96,5 @@ begun-less {plan} {s} h b e = spare-next thickLimit plan h (b .origin) s (b .goi
 pub begun-turn : {plan : Plan} {s : Parallels} → Sound thickLimit plan → Begun thickLimit plan s → isDone plan s ≡ false → parallels plan s ≡ yieldOf plan s .parallel ∷ parallels plan (yieldOf plan s .state)
 begun-turn {plan} {s} h b e = parallels-turn thickLimit plan h (b .origin) s (b .going) e
 
-pub begun-start : {plan : Plan} {p : Point} → Sound thickLimit plan → Near lineLimit p → Begun thickLimit plan (startOf plan p)
+pub begun-start : {plan : Plan} {p : Point} → Sound thickLimit plan → Near lineLimit p → Begun thickLimit plan (parallelsStart plan p)
 begun-start {plan} {p} h near = record { origin = p; origin-near = near; going = going-start thickLimit plan h p }

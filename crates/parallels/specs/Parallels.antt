@@ -130,8 +130,8 @@ abbrev pub freshFlank : Point → Flank
 freshFlank p = record { at = placeOf p (pos 0); error = pos 0 }
 
 -- half of both error steps; the line itself is skipped on the side that is not first
-unfoldable pub startOf : Plan → Point → Parallels
-startOf plan p =
+unfoldable pub parallelsStart : Plan → Point → Parallels
+parallelsStart plan p =
     let first = firstSide (plan .offset) in
     sided first (freshFlank p) (nextParallel plan (swapped first) (freshFlank p) .flank) (quotZ (plan .parallel .loss +ℤ plan .parallel .gain) (pos 2)) first
 
@@ -167,17 +167,13 @@ parallels plan s = parallelsFrom (spare plan s) plan s
 
 -- the parallels of a line
 unfoldable pub parallelsOf : Line → ℤ → Offset → List Parallel
-parallelsOf l width offset = parallels (planOf l width offset) (startOf (planOf l width offset) (l .start))
+parallelsOf l width offset = parallels (planOf l width offset) (parallelsStart (planOf l width offset) (l .start))
 
 -- ---- what holds of each plan and each state, from the start on
 
 -- the delta of a line within the lines' limit
 abbrev pub deltaLimit : ℕ
 deltaLimit = 2 ^ 15
-
--- widths whose thresholds 64 bits hold, for every such delta: no limit of 01, but of the machine
-abbrev pub thickLimit : ℕ
-thickLimit = 2 ^ 10
 
 -- whether an Extra step is due on a side, and that as a number
 abbrev pub due : Parameters → Side → ℤ → Bool

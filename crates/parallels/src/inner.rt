@@ -1,11 +1,11 @@
 //! The parallels of a line, one at a time. Each function asks for a plan and a state that `plan_of`, `start` or a step gave.
 ghost use mathlib.Core.Path.{_≡_};
 ghost use Prim.Native.Nat.{_^_};
-ghost use Rattle.shapes.specs.Limits.{lineLimit};
+ghost use Rattle.shapes.specs.Limits.{lineLimit, thickLimit};
 ghost use Rattle.shapes.specs.Shape.{Near, LineNear};
 ghost use Rattle.whole.specs.Number.{Within};
 ghost use Rattle.bresenham.specs.Walk.{stepLimit, Sized, Placed};
-ghost use Rattle.parallels.specs.Parallels.{firstSide, swapped, falls, across as acrossOf, bent, normalTurn, extraTurn, turnOf, nextParallel, planAlong, planOf, followed, flankAt, sided, startOf, isDone, grown, handed, yieldOf, deltaLimit, thickLimit, Sound, Ready, Begun};
+ghost use Rattle.parallels.specs.Parallels.{firstSide, swapped, falls, across as acrossOf, bent, normalTurn, extraTurn, turnOf, nextParallel, planAlong, planOf, followed, flankAt, sided, parallelsStart, isDone, grown, handed, yieldOf, deltaLimit, Sound, Ready, Begun};
 use crate::Bent;
 use crate::Flank;
 use crate::Parallel;
@@ -253,7 +253,7 @@ pub fn sides(side: Side, this: Flank, other: Flank, accumulator: i64, next: Side
 pub fn start(plan: Plan, point: Point) -> Parallels
     requires { ⌜ Sound thickLimit plan ⌝ }
     requires { ⌜ Near lineLimit point ⌝ }
-    ensures { λ r. ⌜ r ≡ startOf plan point ⌝ }
+    ensures { λ r. ⌜ r ≡ parallelsStart plan point ⌝ }
 {
     let at = Bresenham { point, error: 0 };
     let fresh = Flank { at, error: 0 };

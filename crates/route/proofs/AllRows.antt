@@ -24,10 +24,10 @@ use Rattle.route.specs.Words.{SomeFull}
 use Rattle.route.specs.Answers.{drawRefusal, rowsAnswer, wholeRefusal, refusalOn, rowRefusal}
 use Rattle.route.proofs.Bounds.{Bounds, bounds}
 use Rattle.route.proofs.Chains.{kept-route}
-use Rattle.route.proofs.Choices.{or-free, or-either, or-later, or-before}
+use Rattle.shapes.proofs.Choices.{or-free, or-either, or-later, or-before}
 use Rattle.route.proofs.Drawn.{room-or-full}
 use Rattle.route.proofs.Kept.{segments-all, segment-is}
-use Rattle.route.proofs.Lists.{list-same}
+use Rattle.whole.proofs.Lists.{list-same}
 use Rattle.route.proofs.Ranges.{rows-near, row-within, row-between, place-of, count-none}
 use Rattle.route.proofs.Refused.{draw-none, draw-most, on-eight, row-eight-exactly}
 

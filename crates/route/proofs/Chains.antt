@@ -17,7 +17,7 @@ use Rattle.route.specs.declared.Prepared.{Prepared}
 use Rattle.route.specs.Joined.{Kept, joinsOf}
 use Rattle.route.specs.declared.Listing.{Listing}
 use Rattle.route.specs.Rows.{noRows, rowsIn, rowsRefusal}
-use Rattle.route.specs.Answers.{drawRefusal, preparedOf, rowsAnswer, wholeRefusal, notListed, answerOn, listOn, rowAnswer, rowTo}
+use Rattle.route.specs.Answers.{drawRefusal, preparedOf, rowsAnswer, wholeRefusal, noListing, answerOn, listOn, rowAnswer, rowTo}
 use Rattle.route.proofs.Kept.{kept-joins, kept-more}
 use Rattle.route.proofs.Refused.{draw-none}
 
@@ -70,7 +70,7 @@ module _ (limits : Limits) (closed : Bool) (cs : List ℤ) (w : ℤ) where
     unfolding wholeRefusal
     whole-stopped = rw (e, ne-eqb m 0 some)
 
-    pub row-stopped : (row : ℤ) (out : List ℤ) {l : Listing} → l ≡ notListed m → (l ≡ rowAnswer limits closed cs w row (length out)) × (out ≡ rowTo limits closed cs w row out)
+    pub row-stopped : (row : ℤ) (out : List ℤ) {l : Listing} → l ≡ noListing m → (l ≡ rowAnswer limits closed cs w row (length out)) × (out ≡ rowTo limits closed cs w row out)
     unfolding rowAnswer rowTo
     row-stopped row out is = (rw (e, ne-eqb m 0 some) is, rw (e, ne-eqb m 0 some))
 

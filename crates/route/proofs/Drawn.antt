@@ -21,7 +21,7 @@ use Rattle.route.specs.declared.Joins.{Joins}
 use Rattle.route.specs.Joined.{Kept, joinsOf, segmentsIn, segmentIn}
 use Rattle.route.specs.Rows.{offerAll, spanIn, boardOn}
 use Rattle.route.specs.Words.{spansOn, offering, Crowded}
-use Rattle.route.proofs.Lists.{list-same}
+use Rattle.whole.proofs.Lists.{list-same}
 use Rattle.route.proofs.Kept.{segment-near, segments-all, segment-is, kept-joins}
 use Rattle.route.proofs.Offers.{AllFit, fit-list, board-is, covered-is, eight-exactly, all-or-full, all-sound}
 

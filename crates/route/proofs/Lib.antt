@@ -1,10 +1,8 @@
 pub mod AllRows
 pub mod Bounds
 pub mod Chains
-pub mod Choices
 pub mod Drawn
 pub mod Kept
-pub mod Lists
 pub mod Offers
 pub mod Ranges
 pub mod Refused

@@ -1,16 +1,15 @@
 -- The rows of a route: they are in order and within the limit of its corners, and so is every row between them. Assumes nothing.
-use mathlib.Core.Path.{_≡_, refl}
+use mathlib.Core.Path.{_≡_}
 use mathlib.Core.Bool.{Bool, true, false, cond}
-use mathlib.Core.List.{List, [], _∷_}
-use Prim.Native.Nat.{ℕ, zero, suc, _+_, _*_, _-_, _≤_, _<_}
+use Prim.Native.Nat.{ℕ, zero, suc, _+_, _*_, _≤_, _<_}
 use native.Mathlib.Nat.{zero-add}
 use native.Mathlib.Omega.{arith}
 use lib.Dec.{T}
-use lib.IntN.{ℤ, pos, negsuc, natAbs, _+ℤ_, _-ℤ_}
+use lib.IntN.{ℤ, pos, natAbs, _+ℤ_, _-ℤ_}
 use lib.Signed.{_≤ℤ_, nonNeg}
 use Rattle.whole.specs.Number.{Within, lesser, greater}
 use Rattle.whole.specs.Places.{listFrom}
-use Rattle.whole.proofs.Linear.{dn, linear, le-to, sum, diff, abs-parts, abs-le}
+use Rattle.whole.proofs.Linear.{linear, le-to, sum, diff, abs-parts, abs-le, not-negative, none-below}
 use Rattle.whole.proofs.Spans.{within-lesser, within-greater}
 use Rattle.whole.proofs.Laws.{lesser-le, le-greater}
 use Rattle.shapes.specs.declared.Line.{Line}
@@ -85,14 +84,6 @@ module _ {k : ℕ} where
       (record { ordered = omega linear; first-near = record { bound = omega arith }; last-near = record { bound = omega arith } })
 
 -- ---- the rows between
-
-not-negative : {z : ℤ} → pos 0 ≤ℤ z → T (nonNeg z)
-not-negative {z = pos n} h = tt
-not-negative {z = negsuc n} h = absurd (h .le)
-
-none-below : {z : ℤ} → pos 0 ≤ℤ z → dn z ≡ 0
-none-below {z = pos n} h = refl
-none-below {z = negsuc n} h = absurd (h .le)
 
 module _ {k : ℕ} {rows : RowRange} (near : RowsNear k rows) where
   abbrev height : ℤ

@@ -20,7 +20,7 @@ use Rattle.board.specs.declared.Answer.{Answer}
 use Rattle.board.specs.declared.Board.{Board}
 use Rattle.board.specs.declared.Listed.{Listed}
 use Rattle.board.specs.declared.Run.{Run}
-use Rattle.board.specs.Boards.{live, told, listing, notListed as notTold}
+use Rattle.board.specs.Boards.{live, told, listing, notListed}
 use Rattle.board_laws.specs.Histories.{boardAfter}
 use Rattle.coordinates.specs.Refusal.{routeRefusal, Accepted}
 use Rattle.coordinates.proofs.Laws.{accepted-exactly, refused-most}
@@ -31,8 +31,8 @@ use Rattle.route.specs.declared.Listing.{Listing}
 use Rattle.route.specs.Joined.{joinsOf}
 use Rattle.route.specs.Rows.{boardOn}
 use Rattle.route.specs.Words.{spansOn, offering, Crowded}
-use Rattle.route.specs.Answers.{drawRefusal, notListed, listingOf, refusalOn, answerOn, rowRefusal, rowAnswer}
-use Rattle.route.proofs.Choices.{or-none, or-either, or-later, or-before}
+use Rattle.route.specs.Answers.{drawRefusal, noListing, listingOf, refusalOn, answerOn, rowRefusal, rowAnswer}
+use Rattle.shapes.proofs.Choices.{or-none, or-either, or-later, or-before}
 use Rattle.route.proofs.Drawn.{room-or-full, row-reached, row-eight}
 
 -- ---- 1 to 5
@@ -169,7 +169,7 @@ told-number : (b : Board) (len : ℕ) → told b len .refusal ≡ cond (leb (2 *
 unfolding told
 told-number b len = by (leb (2 * length (live b)) len)
   where
-    by : (t : Bool) → cond t (listing b) (notTold 8) .refusal ≡ cond t 0 8
+    by : (t : Bool) → cond t (listing b) (notListed 8) .refusal ≡ cond t 0 8
     by true = refl
     by false = refl
 
@@ -180,14 +180,14 @@ told-eight : (b : Board) (len : ℕ) → (told b len .refusal ≡ 8) ↔ (2 * le
 told-eight b len = rw (told-number b len) (good-first (leb (2 * length (live b)) len) (leb-iff (2 * length (live b)) len) (λ e. omega arith))
 
 -- the number of a choice between three answers
-chosen-number : (d m : ℕ) (l : Listing) → cond (eqb d 0) (cond (eqb m 0) l (notListed m)) (notListed d) .refusal ≡ orElse (orElse d m) (l .refusal)
+chosen-number : (d m : ℕ) (l : Listing) → cond (eqb d 0) (cond (eqb m 0) l (noListing m)) (noListing d) .refusal ≡ orElse (orElse d m) (l .refusal)
 chosen-number d m l = by (eqb d 0) refl
   where
-    second : (u : Bool) → cond u l (notListed m) .refusal ≡ cond u (l .refusal) m
+    second : (u : Bool) → cond u l (noListing m) .refusal ≡ cond u (l .refusal) m
     second true = refl
     second false = refl
 
-    by : (t : Bool) → eqb d 0 ≡ t → cond t (cond (eqb m 0) l (notListed m)) (notListed d) .refusal ≡ cond (eqb (cond t m d) 0) (l .refusal) (cond t m d)
+    by : (t : Bool) → eqb d 0 ≡ t → cond t (cond (eqb m 0) l (noListing m)) (noListing d) .refusal ≡ cond (eqb (cond t m d) 0) (l .refusal) (cond t m d)
     by true e = second (eqb m 0)
     by false e = rw e
 

@@ -12,13 +12,13 @@ use Rattle.board.specs.Boards.{told, toldTo}
 use Rattle.route.specs.declared.Joins.{Joins}
 use Rattle.route.specs.declared.Listing.{Listing}
 use Rattle.route.specs.Rows.{boardOn}
-use Rattle.route.specs.Answers.{notListed, refusalOn, answerOn, listOn}
+use Rattle.route.specs.Answers.{noListing, refusalOn, answerOn, listOn}
 
 module _ (k : ℕ) (route : Joins) (row : ℤ) (out : List ℤ) where
   abbrev Lists : Listing → List ℤ → Type 0
   Lists answer after = (answer ≡ answerOn k route row (length out)) × (after ≡ listOn k route row out)
 
-  pub refused-on : {l : Listing} {m : ℕ} → l ≡ notListed m → refusalOn k route row ≡ m → m ≢ 0 → Lists l out
+  pub refused-on : {l : Listing} {m : ℕ} → l ≡ noListing m → refusalOn k route row ≡ m → m ≢ 0 → Lists l out
   unfolding answerOn listOn
   refused-on {m} is e some = let other = ne-eqb m 0 some in (rw (e, other) is, rw (e, other))
 

@@ -14,7 +14,7 @@ use Rattle.whole.proofs.Columns.{count-same}
 use Rattle.shapes.specs.declared.limits.Limits.{Limits}
 use Rattle.board.specs.declared.Board.{Board}
 use Rattle.board.specs.Runs.{lit, total}
-use Rattle.board.specs.Boards.{Sound, live, listing, notListed as notTold, over, told, toldTo, listRefusal, listed, listedTo}
+use Rattle.board.specs.Boards.{Sound, live, listing, notListed, over, told, toldTo, listRefusal, listed, listedTo}
 use Rattle.board.proofs.Sound.{sound-iff}
 use Rattle.board_laws.specs.Histories.{Event, covered, boardAfter, runsAfter, spansAfter, runsIn}
 use Rattle.board_laws.proofs.Demand.{demand-3}
@@ -24,8 +24,8 @@ use Rattle.route.specs.declared.Listing.{Listing}
 use Rattle.route.specs.Joined.{joinsOf}
 use Rattle.route.specs.Rows.{boardOn}
 use Rattle.route.specs.Words.{spansOn, offering, RowTold}
-use Rattle.route.specs.Answers.{drawRefusal, refusalOn, rowRefusal, notListed, listingOf, answerOn, listOn, rowAnswer, rowTo}
-use Rattle.route.proofs.Choices.{or-none}
+use Rattle.route.specs.Answers.{drawRefusal, refusalOn, rowRefusal, noListing, listingOf, answerOn, listOn, rowAnswer, rowTo}
+use Rattle.shapes.proofs.Choices.{or-none}
 use Rattle.route.proofs.Drawn.{drawn-sound, row-covered}
 use Rattle.route.proofs.Chains.{kept-route}
 use Rattle.route.proofs.Refused.{draw-none, row-none, none-reached, answer-none}
@@ -105,17 +105,17 @@ module _ (limits : Limits) (closed : Bool) (cs : List ℤ) (w row : ℤ) (out : 
   abbrev answer : Listing
   answer = rowAnswer limits closed cs w row (length out)
 
-  told-refused : (t : Bool) → let a = listingOf (cond t (listing drawn) (notTold 8)) in a .refusal ≢ 0 → (a ≡ notListed (a .refusal)) × (cond t (over out (live drawn)) out ≡ out)
+  told-refused : (t : Bool) → let a = listingOf (cond t (listing drawn) (notListed 8)) in a .refusal ≢ 0 → (a ≡ noListing (a .refusal)) × (cond t (over out (live drawn)) out ≡ out)
   told-refused true some = absurd (some refl)
   told-refused false some = (refl, refl)
 
   -- the number alone, and the list as it was
-  pub row-refused : answer .refusal ≢ 0 → (answer ≡ notListed (answer .refusal)) × (rowTo limits closed cs w row out ≡ out)
+  pub row-refused : answer .refusal ≢ 0 → (answer ≡ noListing (answer .refusal)) × (rowTo limits closed cs w row out ≡ out)
   unfolding rowAnswer rowTo answerOn listOn told toldTo
   row-refused = by (eqb d 0) (eqb on 0)
     where
-      by : (t u : Bool) → let a = cond t (cond u (listingOf (told drawn (length out))) (notListed on)) (notListed d) in
-          a .refusal ≢ 0 → (a ≡ notListed (a .refusal)) × (cond t (cond u (toldTo drawn out) out) out ≡ out)
+      by : (t u : Bool) → let a = cond t (cond u (listingOf (told drawn (length out))) (noListing on)) (noListing d) in
+          a .refusal ≢ 0 → (a ≡ noListing (a .refusal)) × (cond t (cond u (toldTo drawn out) out) out ≡ out)
       by true true some = told-refused (leb (2 * length (live drawn)) (length out)) some
       by true false some = (refl, refl)
       by false u some = (refl, refl)

@@ -46,8 +46,8 @@ wholeRefusal limits closed cs w = let route = joinsOf (limits .corner) closed cs
 
 -- ---- a row of joins that are kept, k being the rows' limit
 
-abbrev pub notListed : ℕ → Listing
-notListed n = record { refusal = n; count = 0; total = pos 0 }
+abbrev pub noListing : ℕ → Listing
+noListing n = record { refusal = n; count = 0; total = pos 0 }
 
 abbrev pub listingOf : Listed → Listing
 listingOf l = record { refusal = l .refusal; count = l .count; total = l .total }
@@ -58,7 +58,7 @@ refusalOn k route row = cond (isWithin k row) (boardOn route row .refusal) rowRe
 
 -- the listing of its board; `n` is the length of the list lent for it
 unfoldable pub answerOn : ℕ → Joins → ℤ → ℕ → Listing
-answerOn k route row n = let m = refusalOn k route row in cond (eqb m 0) (listingOf (told (boardOn route row .board) n)) (notListed m)
+answerOn k route row n = let m = refusalOn k route row in cond (eqb m 0) (listingOf (told (boardOn route row .board) n)) (noListing m)
 
 -- what the lent list holds afterwards
 unfoldable pub listOn : ℕ → Joins → ℤ → List ℤ → List ℤ
@@ -73,7 +73,7 @@ rowRefusal limits closed cs w row = orElse (drawRefusal limits closed cs w) (ref
 unfoldable pub rowAnswer : Limits → Bool → List ℤ → ℤ → ℤ → ℕ → Listing
 rowAnswer limits closed cs w row n =
     let d = drawRefusal limits closed cs w in
-    cond (eqb d 0) (answerOn (limits .corner) (joinsOf (limits .corner) closed cs w) row n) (notListed d)
+    cond (eqb d 0) (answerOn (limits .corner) (joinsOf (limits .corner) closed cs w) row n) (noListing d)
 
 unfoldable pub rowTo : Limits → Bool → List ℤ → ℤ → ℤ → List ℤ → List ℤ
 rowTo limits closed cs w row out =

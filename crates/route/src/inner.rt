@@ -8,7 +8,7 @@ ghost use Rattle.coordinates.specs.Points.{pointCount};
 ghost use Rattle.coordinates.specs.Refusal.{AllWithin};
 ghost use Rattle.route.specs.Joined.{noJoin, Kept, joinsOf};
 ghost use Rattle.route.specs.Rows.{boardOn, withBox, rowsIn, RowsNear, rowCount, rowAt, rowsRefusal};
-ghost use Rattle.route.specs.Answers.{notListed, noJoins, preparedOf, answerOn, listOn};
+ghost use Rattle.route.specs.Answers.{noListing, noJoins, preparedOf, answerOn, listOn};
 use crate::Joins;
 use crate::Listing;
 use crate::Prepared;
@@ -148,7 +148,7 @@ pub fn row_board(route: Joins, row: i64) -> Answer
 
 /// An answer that lists nothing.
 pub fn refused(number: u64) -> Listing
-    ensures { λ r. ⌜ r ≡ notListed number ⌝ }
+    ensures { λ r. ⌜ r ≡ noListing number ⌝ }
 {
     Listing {
         refusal: number,

@@ -11,6 +11,7 @@ use lib.IntN.{ℤ, pos, negℤ}
 use lib.ListN.{length, getD, take, drop}
 use lib.Seq.{take-append-seam}
 use Rattle.whole.specs.Number.{Within}
+use Rattle.whole.proofs.Columns.{count-most}
 use Rattle.whole.proofs.Bounds.{within-more}
 use Rattle.shapes.specs.declared.limits.Limits.{Limits}
 use Rattle.shapes.specs.Limits.{lineLimit, Roomy}
@@ -29,12 +30,11 @@ use Rattle.route.specs.Joined.{Kept, joinsOf}
 use Rattle.route.specs.Rows.{rowsIn, RowsNear, rowCount, rowsRefusal}
 use Rattle.route.specs.Answers.{drawRefusal, wholeRefusal}
 use Rattle.route.proofs.Chains.{Ready, kept-route}
-use Rattle.route.proofs.Choices.{or-none}
+use Rattle.shapes.proofs.Choices.{or-none}
 use Rattle.route.proofs.Drawn.{drawn-sound}
 use Rattle.route.proofs.Kept.{kept-more}
 use Rattle.route.proofs.Ranges.{rows-near, row-within, count-small}
 use Rattle.row_text.specs.Pixels.{litOn, litAt, litIn, routePixels, entryPixels, allPixels, filePixels}
-use Rattle.row_text.proofs.Numbers.{count-most}
 use Rattle.row_text.proofs.Sums.{sum-within}
 
 -- ---- a row

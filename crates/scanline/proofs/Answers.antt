@@ -14,7 +14,7 @@ use Rattle.whole.proofs.Tests.{and-iff, eqb-iff, Chosen, chosen, never, bad-fir
 use Rattle.shapes.specs.declared.Line.{Line}
 use Rattle.shapes.specs.declared.Span.{Span}
 use Rattle.shapes.specs.Shape.{LineNear, isLineNear}
-use Rattle.shapes.specs.Spans.{spanOf, Sound, isSound}
+use Rattle.shapes.specs.Spans.{spanOf, SpanSound, isSpanSound}
 use Rattle.shapes.proofs.Columns.{sound-exactly}
 use Rattle.shapes.proofs.Laws.{line-near-iff}
 use Rattle.scanline.specs.declared.Spanned.{Spanned}
@@ -43,33 +43,33 @@ module _ (k : ℕ) (s : Span) where
   unfolding spanRefusal
   span-six = row-six _ _ (within-iff k (s .row)) (sound-exactly k s)
 
-  pub span-seven : (spanRefusal k s ≡ 7) ↔ (Within (s .row) k × (Sound k s → ⊥))
+  pub span-seven : (spanRefusal k s ≡ 7) ↔ (Within (s .row) k × (SpanSound k s → ⊥))
   unfolding spanRefusal
   span-seven = row-seven _ _ (within-iff k (s .row)) (sound-exactly k s)
 
-  pub span-none : (spanRefusal k s ≡ 0) ↔ (Within (s .row) k × Sound k s)
+  pub span-none : (spanRefusal k s ≡ 0) ↔ (Within (s .row) k × SpanSound k s)
   unfolding spanRefusal
   span-none = row-none _ _ (within-iff k (s .row)) (sound-exactly k s)
 
   span-four : spanRefusal k s ≡ 4 → ⊥
   unfolding spanRefusal
-  span-four = never (isWithin k (s .row)) (never (isSound k s) (λ e. omega arith) (λ e. omega arith)) (λ e. omega arith)
+  span-four = never (isWithin k (s .row)) (never (isSpanSound k s) (λ e. omega arith) (λ e. omega arith)) (λ e. omega arith)
 
 -- ---- a span and a column to be added
 
 module _ (k : ℕ) (s : Span) (c : ℤ) where
-  added : ((isSound k s && isWithin k c) ≡ true) ↔ (Sound k s × Within c k)
-  added = and-iff (isSound k s) (isWithin k c) (sound-exactly k s) (within-iff k c)
+  added : ((isSpanSound k s && isWithin k c) ≡ true) ↔ (SpanSound k s × Within c k)
+  added = and-iff (isSpanSound k s) (isWithin k c) (sound-exactly k s) (within-iff k c)
 
   pub extend-six : (extendRefusal k s c ≡ 6) ↔ (Within (s .row) k → ⊥)
   unfolding extendRefusal
   extend-six = row-six _ _ (within-iff k (s .row)) added
 
-  pub extend-seven : (extendRefusal k s c ≡ 7) ↔ (Within (s .row) k × ((Sound k s × Within c k) → ⊥))
+  pub extend-seven : (extendRefusal k s c ≡ 7) ↔ (Within (s .row) k × ((SpanSound k s × Within c k) → ⊥))
   unfolding extendRefusal
   extend-seven = row-seven _ _ (within-iff k (s .row)) added
 
-  pub extend-none : (extendRefusal k s c ≡ 0) ↔ (Within (s .row) k × (Sound k s × Within c k))
+  pub extend-none : (extendRefusal k s c ≡ 0) ↔ (Within (s .row) k × (SpanSound k s × Within c k))
   unfolding extendRefusal
   extend-none = row-none _ _ (within-iff k (s .row)) added
 
@@ -79,18 +79,18 @@ module _ (k : ℕ) (s o : Span) where
   one-row : ((isWithin k (s .row) && eqZ (s .row) (o .row)) ≡ true) ↔ (Within (s .row) k × (s .row ≡ o .row))
   one-row = and-iff (isWithin k (s .row)) (eqZ (s .row) (o .row)) (within-iff k (s .row)) (eqZ-iff (s .row) (o .row))
 
-  both-sound : ((isSound k s && isSound k o) ≡ true) ↔ (Sound k s × Sound k o)
-  both-sound = and-iff (isSound k s) (isSound k o) (sound-exactly k s) (sound-exactly k o)
+  both-sound : ((isSpanSound k s && isSpanSound k o) ≡ true) ↔ (SpanSound k s × SpanSound k o)
+  both-sound = and-iff (isSpanSound k s) (isSpanSound k o) (sound-exactly k s) (sound-exactly k o)
 
   pub join-six : (joinRefusal k s o ≡ 6) ↔ ((Within (s .row) k × (s .row ≡ o .row)) → ⊥)
   unfolding joinRefusal
   join-six = row-six _ _ one-row both-sound
 
-  pub join-seven : (joinRefusal k s o ≡ 7) ↔ ((Within (s .row) k × (s .row ≡ o .row)) × ((Sound k s × Sound k o) → ⊥))
+  pub join-seven : (joinRefusal k s o ≡ 7) ↔ ((Within (s .row) k × (s .row ≡ o .row)) × ((SpanSound k s × SpanSound k o) → ⊥))
   unfolding joinRefusal
   join-seven = row-seven _ _ one-row both-sound
 
-  pub join-none : (joinRefusal k s o ≡ 0) ↔ ((Within (s .row) k × (s .row ≡ o .row)) × (Sound k s × Sound k o))
+  pub join-none : (joinRefusal k s o ≡ 0) ↔ ((Within (s .row) k × (s .row ≡ o .row)) × (SpanSound k s × SpanSound k o))
   unfolding joinRefusal
   join-none = row-none _ _ one-row both-sound
 
@@ -105,11 +105,11 @@ module _ (k : ℕ) (s : Span) (l : Line) where
   unfolding meetRefusal
   meet-six = good-later (isLineNear k l) (line-near-iff k l) (λ e. omega arith) (span-six k s)
 
-  pub meet-seven : (meetRefusal k s l ≡ 7) ↔ (LineNear k l × (Within (s .row) k × (Sound k s → ⊥)))
+  pub meet-seven : (meetRefusal k s l ≡ 7) ↔ (LineNear k l × (Within (s .row) k × (SpanSound k s → ⊥)))
   unfolding meetRefusal
   meet-seven = good-later (isLineNear k l) (line-near-iff k l) (λ e. omega arith) (span-seven k s)
 
-  pub meet-none : (meetRefusal k s l ≡ 0) ↔ (LineNear k l × (Within (s .row) k × Sound k s))
+  pub meet-none : (meetRefusal k s l ≡ 0) ↔ (LineNear k l × (Within (s .row) k × SpanSound k s))
   unfolding meetRefusal
   meet-none = good-later (isLineNear k l) (line-near-iff k l) (λ e. omega arith) (span-none k s)
 

@@ -17,7 +17,7 @@ use Rattle.shapes.specs.declared.Line.{Line}
 use Rattle.shapes.specs.declared.Span.{Span}
 use Rattle.shapes.specs.Shape.{pointOf, LineNear}
 use Rattle.shapes.proofs.Columns.{covers-some, covers-first}
-use Rattle.shapes.specs.Spans.{spanOf, Covers, isEmpty, Sound}
+use Rattle.shapes.specs.Spans.{spanOf, Covers, isEmpty, SpanSound}
 use Rattle.scanline.specs.Spans.{touches, inRange, printedTouches, join, newSpan, tryExtended, tryTaken}
 use Rattle.bresenham.specs.Points.{linePoints}
 use Rattle.bresenham.proofs.Lines.{line-columns, line-rows}
@@ -83,7 +83,7 @@ covers-box : {k : ℕ} {c : ℤ} → Covers (box k) c → Within c k
 covers-box {k} {c} h = within-of (h .from) (omega (ordered, sum (pos k) (pos 1)))
 
 -- a line within k keeps the span within k
-pub met-sound : {k : ℕ} (s : Span) (l : Line) → LineNear k l → Sound k s → Sound k (met s l)
+pub met-sound : {k : ℕ} (s : Span) (l : Line) → LineNear k l → SpanSound k s → SpanSound k (met s l)
 met-sound {k} s l near sound = λ c h. covers-box (met-least s l .least (box k) (λ c h. box-covers (column-within h)) c h)
   where
     column-within : {c : ℤ} → Column s (linePoints l) c → Within c k

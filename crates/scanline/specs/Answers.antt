@@ -9,7 +9,7 @@ use Rattle.shapes.specs.declared.Line.{Line}
 use Rattle.shapes.specs.declared.Span.{Span}
 use Rattle.shapes.specs.Refusals.{coordinateRefused, rowRefused, columnRefused}
 use Rattle.shapes.specs.Shape.{isLineNear}
-use Rattle.shapes.specs.Spans.{isSound}
+use Rattle.shapes.specs.Spans.{isSpanSound}
 use Rattle.scanline.specs.declared.Spanned.{Spanned}
 use Rattle.scanline.specs.declared.Extended.{Extended}
 use Rattle.scanline.specs.declared.Taken.{Taken}
@@ -23,14 +23,14 @@ abbrev pub rowRefusal : Bool → Bool → ℕ
 rowRefusal right inside = cond right (cond inside 0 columnRefused) rowRefused
 
 unfoldable pub spanRefusal : ℕ → Span → ℕ
-spanRefusal k s = rowRefusal (isWithin k (s .row)) (isSound k s)
+spanRefusal k s = rowRefusal (isWithin k (s .row)) (isSpanSound k s)
 
 unfoldable pub extendRefusal : ℕ → Span → ℤ → ℕ
-extendRefusal k s c = rowRefusal (isWithin k (s .row)) (isSound k s && isWithin k c)
+extendRefusal k s c = rowRefusal (isWithin k (s .row)) (isSpanSound k s && isWithin k c)
 
 -- 6 also where the two rows differ
 unfoldable pub joinRefusal : ℕ → Span → Span → ℕ
-joinRefusal k s o = rowRefusal (isWithin k (s .row) && eqZ (s .row) (o .row)) (isSound k s && isSound k o)
+joinRefusal k s o = rowRefusal (isWithin k (s .row) && eqZ (s .row) (o .row)) (isSpanSound k s && isSpanSound k o)
 
 -- 4: a coordinate of the line is outside
 unfoldable pub meetRefusal : ℕ → Span → Line → ℕ

@@ -13,7 +13,7 @@ use Rattle.whole.specs.Number.{Within}
 use Rattle.whole.proofs.Tests.{clash}
 use Rattle.shapes.specs.declared.limits.Limits.{Limits}
 use Rattle.shapes.specs.declared.Span.{Span}
-use Rattle.shapes.specs.Spans.{Covers, isEmpty, Sound}
+use Rattle.shapes.specs.Spans.{Covers, isEmpty, SpanSound}
 use Rattle.shapes.proofs.Columns.{covers-some}
 use Rattle.scanline.specs.declared.Handed.{Handed}
 use Rattle.scanline.specs.Spans.{newSpan, tryExtended, tryTaken}
@@ -76,7 +76,7 @@ module _ (limits : Limits) (cs : List ℤ) (w row : ℤ) (accepted : Accepted (l
   -- what may be gathered on the row
   record Fine (s : Span) : Type 0 where
     row-same : s .row ≡ row
-    sound : Sound (limits .corner) s
+    sound : SpanSound (limits .corner) s
 
   abbrev Hands : ℕ → Span → Type 0
   Hands k s = Fine s → HandsOut next (walkOf k w s) (mergedAll s (left k))

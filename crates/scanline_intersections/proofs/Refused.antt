@@ -12,7 +12,7 @@ use Rattle.whole.specs.Number.{Within, isWithin}
 use Rattle.whole.proofs.Laws.{within-iff}
 use Rattle.whole.proofs.Tests.{eqb-iff, Chosen, chosen, never, bad-first, good-first, good-later}
 use Rattle.shapes.specs.declared.limits.Limits.{Limits}
-use Rattle.shapes.specs.Spans.{isSound, Sound}
+use Rattle.shapes.specs.Spans.{isSpanSound, SpanSound}
 use Rattle.shapes.specs.declared.Span.{Span}
 use Rattle.scanline.specs.Spans.{newSpan, tryExtended}
 use Rattle.scanline.specs.Answers.{spanRefusal}
@@ -118,7 +118,7 @@ module _ (limits : Limits) (cs : List ℤ) where
     -- a span is refused with 6 and 7 alone
     span-never : {m : ℕ} → 0 < m → m < 6 → spanRefusal (limits .corner) (walk .span) ≡ m → ⊥
     unfolding spanRefusal
-    span-never low high = never (isWithin (limits .corner) (walk .span .row)) (never (isSound (limits .corner) (walk .span)) (λ e. omega arith) (λ e. omega arith)) (λ e. omega arith)
+    span-never low high = never (isWithin (limits .corner) (walk .span .row)) (never (isSpanSound (limits .corner) (walk .span)) (λ e. omega arith) (λ e. omega arith)) (λ e. omega arith)
 
     -- 1 to 4 as of the list and the width
     pub next-list : {m : ℕ} → 0 < m → m ≤ 4 → (nextRefusal limits cs walk ≡ m) ↔ (list w ≡ m)
@@ -140,10 +140,10 @@ module _ (limits : Limits) (cs : List ℤ) where
     pub next-6 : (nextRefusal limits cs walk ≡ 6) ↔ (fine w × (JoinsNear w × (Within (walk .span .row) (limits .corner) → ⊥)))
     next-6 = later-near (λ e. omega arith) (other w (omega arith)) (span-six (limits .corner) (walk .span))
 
-    pub next-7 : (nextRefusal limits cs walk ≡ 7) ↔ (fine w × (JoinsNear w × (Within (walk .span .row) (limits .corner) × (Sound (limits .corner) (walk .span) → ⊥))))
+    pub next-7 : (nextRefusal limits cs walk ≡ 7) ↔ (fine w × (JoinsNear w × (Within (walk .span .row) (limits .corner) × (SpanSound (limits .corner) (walk .span) → ⊥))))
     next-7 = later-near (λ e. omega arith) (other w (omega arith)) (span-seven (limits .corner) (walk .span))
 
-    pub next-sound : (nextRefusal limits cs walk ≡ 0) ↔ (fine w × (JoinsNear w × (Within (walk .span .row) (limits .corner) × Sound (limits .corner) (walk .span))))
+    pub next-sound : (nextRefusal limits cs walk ≡ 0) ↔ (fine w × (JoinsNear w × (Within (walk .span .row) (limits .corner) × SpanSound (limits .corner) (walk .span))))
     next-sound = later-near (λ e. omega arith) (λ h no. no h) (span-none (limits .corner) (walk .span))
 
     -- with no refusal what is merged next, else all 0 but the number, and the walk as it was

@@ -12,7 +12,7 @@ use Rattle.whole.proofs.Orders.{ordered}
 use Rattle.whole.proofs.Spans.{within-low, within-high, within-of}
 use Rattle.whole.proofs.Tests.{and-left, and-right, clash}
 use Rattle.shapes.specs.declared.Span.{Span}
-use Rattle.shapes.specs.Spans.{Covers, isEmpty, Sound, isSound}
+use Rattle.shapes.specs.Spans.{Covers, isEmpty, SpanSound, isSpanSound}
 
 -- ---- a span that is not empty
 
@@ -30,12 +30,12 @@ covers-last s e = omega (ordered, diff (s .end) (pos 1))
 
 -- ---- columns from -k to k
 
-pub sound-more : {j k : ℕ} {s : Span} → Sound j s → j ≤ k → Sound k s
+pub sound-more : {j k : ℕ} {s : Span} → SpanSound j s → j ≤ k → SpanSound k s
 sound-more h le = λ c w. within-more (h c w) le
 
 -- the test for that
-sound-by : (k : ℕ) (s : Span) (t : Bool) → isEmpty s ≡ t → (isSound k s ≡ true) ↔ Sound k s
-unfolding isSound
+sound-by : (k : ℕ) (s : Span) (t : Bool) → isEmpty s ≡ t → (isSpanSound k s ≡ true) ↔ SpanSound k s
+unfolding isSpanSound
 sound-by k s true e = (λ h c w. absurd (clash e (covers-some s c w)), λ h. rw e)
 sound-by k s false e = (
   λ h c w.
@@ -46,5 +46,5 @@ sound-by k s false e = (
   λ h. simp (e, within-true (h (s .start) (covers-first s e)), within-true (h (s .end -ℤ pos 1) (covers-last s e))),
 )
 
-pub sound-exactly : (k : ℕ) (s : Span) → (isSound k s ≡ true) ↔ Sound k s
+pub sound-exactly : (k : ℕ) (s : Span) → (isSpanSound k s ≡ true) ↔ SpanSound k s
 sound-exactly k s = sound-by k s (isEmpty s) refl

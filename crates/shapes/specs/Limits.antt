@@ -44,6 +44,10 @@ lineLimit = 2 ^ 14
 abbrev pub strokeLimit : ℕ
 strokeLimit = 2 ^ 13
 
+-- widths whose thresholds 64 bits hold, for every line within lineLimit
+abbrev pub thickLimit : ℕ
+thickLimit = 2 ^ 10
+
 -- limits that the machine has room for
 pub record Roomy (limits : Limits) : Type 0 where
   pub point-room : limits .point ≤ strokeLimit

@@ -19,9 +19,9 @@ unfoldable pub isEmpty : Span → Bool
 isEmpty s = leZ (s .end) (s .start)
 
 -- every column is from -k to k
-abbrev pub Sound : ℕ → Span → Type 0
-Sound k s = (c : ℤ) → Covers s c → Within c k
+abbrev pub SpanSound : ℕ → Span → Type 0
+SpanSound k s = (c : ℤ) → Covers s c → Within c k
 
 -- the test for that: the first and the last column of a span that is not empty are
-unfoldable pub isSound : ℕ → Span → Bool
-isSound k s = isEmpty s || (isWithin k (s .start) && isWithin k (s .end -ℤ pos 1))
+unfoldable pub isSpanSound : ℕ → Span → Bool
+isSpanSound k s = isEmpty s || (isWithin k (s .start) && isWithin k (s .end -ℤ pos 1))

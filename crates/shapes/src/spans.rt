@@ -1,6 +1,6 @@
 //! Whether a span is empty, and whether it is inside the columns.
 ghost use mathlib.Core.Path.{_≡_};
-ghost use Rattle.shapes.specs.Spans.{isEmpty, isSound};
+ghost use Rattle.shapes.specs.Spans.{isEmpty, isSpanSound};
 use crate::Span;
 use whole::inner::both;
 use whole::inner::within;
@@ -14,7 +14,7 @@ pub fn is_empty(span: Span) -> bool
 
 /// Whether all columns of a span are from `-limit` to `limit`; so it is where there is none.
 pub fn is_sound(span: Span, limit: u32) -> bool
-    ensures { λ r. ⌜ r ≡ isSound limit span ⌝ }
+    ensures { λ r. ⌜ r ≡ isSpanSound limit span ⌝ }
 {
     let start = span.start;
     let end = span.end;

@@ -16,7 +16,7 @@ use Rattle.shapes.specs.declared.Point.{Point}
 use Rattle.shapes.specs.declared.Line.{Line}
 use Rattle.shapes.specs.declared.Offset.{Offset}
 use Rattle.shapes.specs.declared.Offset.the-variants as offset
-use Rattle.shapes.specs.Limits.{lineLimit}
+use Rattle.shapes.specs.Limits.{lineLimit, thickLimit}
 use Rattle.shapes.specs.Shape.{LineNear, plus, delta}
 use Rattle.shapes.proofs.Laws.{near-delta}
 use Rattle.bresenham.specs.declared.Parameters.{Parameters}
@@ -27,7 +27,7 @@ use Rattle.bresenham.proofs.Laws.{threshold-natural}
 use Rattle.parallels.specs.declared.Plan.{Plan}
 use Rattle.parallels.specs.declared.Parallels.{Parallels}
 use Rattle.parallels.specs.declared.Parallel.{Parallel}
-use Rattle.parallels.specs.Parallels.{deltaLimit, thickLimit, Bounded, Sound, Begun, planOf, isDone, yieldOf, parallels, parallelsOf}
+use Rattle.parallels.specs.Parallels.{deltaLimit, Bounded, Sound, Begun, planOf, isDone, yieldOf, parallels, parallelsOf}
 use Rattle.parallels.proofs.Laws.{yield-away, yield-took, parallels-most, parallels-end}
 use Rattle.parallels.proofs.Room.{near-away, begun-turn}
 use Rattle.thick_points.specs.declared.inner.Telling.{Telling}

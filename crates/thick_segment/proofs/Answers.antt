@@ -14,7 +14,7 @@ use Rattle.whole.proofs.Linear.{linear}
 use Rattle.whole.proofs.Spans.{within-low, within-high, within-of}
 use Rattle.whole.proofs.Tests.{eqb-iff, Chosen, chosen, chosen-exactly}
 use Rattle.scanline.specs.Spans.{newSpan}
-use Rattle.shapes.specs.Spans.{Sound}
+use Rattle.shapes.specs.Spans.{SpanSound}
 use Rattle.thick_segment.specs.declared.Segment.{Segment}
 use Rattle.thick_segment.specs.Segments.{SegmentNear, isSegmentNear, isSkeleton, edgesOf, boundingBox, rowsOf, perimeterOf, countOf, spanOn}
 use Rattle.thick_segment.specs.Words.{HasRow}
@@ -88,7 +88,7 @@ module _ (k : ℕ) (s : Segment) where
     span-refusal = refusal-by (eqb (segmentRefusal k s row) 0) refl
 
     -- every column of an accepted segment's span is within the columns
-    pub span-columns : spanAnswer k s row .refusal ≡ 0 → Sound k (spanAnswer k s row .span)
+    pub span-columns : spanAnswer k s row .refusal ≡ 0 → SpanSound k (spanAnswer k s row .span)
     span-columns e =
         let none = sym span-refusal ∙ e in
         rw (span-chosen .holds none) (span-sound s row (segment-none k s row .0 none .0))

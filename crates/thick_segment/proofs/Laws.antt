@@ -12,7 +12,7 @@ use Rattle.shapes.specs.declared.Line.{Line}
 use Rattle.shapes.specs.declared.Span.{Span}
 use Rattle.shapes.specs.Shape.{pointOf, Near, LineNear}
 use Rattle.scanline.specs.Spans.{newSpan}
-use Rattle.shapes.specs.Spans.{isEmpty, Sound}
+use Rattle.shapes.specs.Spans.{isEmpty, SpanSound}
 use Rattle.bresenham.specs.Points.{linePoints}
 use Rattle.scanline.specs.Meeting.{seenAll, seen, met}
 use Rattle.scanline.specs.Words.{met-at, End, kept, came, Least}
@@ -72,16 +72,16 @@ span-ends s row some = (end-drawn (span-least s row .first some), end-drawn (spa
 
 -- ---- columns and rows are as near as the joins' corners
 
-all-sound : {k : ℕ} (t : Span) (ls : List Line) → Each k ls → Sound k t → Sound k (metAll t ls)
+all-sound : {k : ℕ} (t : Span) (ls : List Line) → Each k ls → SpanSound k t → SpanSound k (metAll t ls)
 unfolding metAll
 all-sound t [] none h = h
 all-sound t (l ∷ ls) (more near e) h = all-sound (met t l) ls e (met-sound t l near h)
 
-new-sound : {k : ℕ} (row : ℤ) → Sound k (newSpan row)
+new-sound : {k : ℕ} (row : ℤ) → SpanSound k (newSpan row)
 unfolding isEmpty
 new-sound row c h = absurd (clash refl (covers-some (newSpan row) c h))
 
-pub span-sound : {k : ℕ} (s : Segment) (row : ℤ) → SegmentNear k s → Sound k (spanOn s row)
+pub span-sound : {k : ℕ} (s : Segment) (row : ℤ) → SegmentNear k s → SpanSound k (spanOn s row)
 unfolding spanOn
 span-sound s row h = all-sound (newSpan row) (drawn s) (drawn-near s h) (new-sound row)
 

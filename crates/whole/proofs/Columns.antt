@@ -150,3 +150,14 @@ counted s e x (suc n) a b c =
 
 pub count-between : (s e x : ℤ) (n : ℕ) → x ≤ℤ s → s ≤ℤ e → e ≤ℤ (x +ℤ pos n) → pos (countFrom (between s e) x n) ≡ e -ℤ s
 count-between s e x n a b c = omega (linear, counted s e x n a b c, diff e s)
+
+-- ---- how many of n numbers can pass a test
+
+one-most : (t : Bool) → cond t 1 0 ≤ 1
+one-most true = omega arith
+one-most false = omega arith
+
+pub count-most : (p : ℤ → Bool) (x : ℤ) (n : ℕ) → countFrom p x n ≤ n
+unfolding countFrom
+count-most p x zero = omega arith
+count-most p x (suc n) = omega (arith, one-most (p x), count-most p (x +ℤ pos 1) n)

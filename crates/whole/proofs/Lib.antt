@@ -2,6 +2,7 @@ pub mod Bounds
 pub mod Columns
 pub mod Laws
 pub mod Linear
+pub mod Lists
 pub mod Machine
 pub mod Middle
 pub mod Orders

@@ -7,9 +7,9 @@ use mathlib.Core.Bool.{Bool, true, false, cond}
 use Prim.Native.Nat.{ℕ, zero, suc, _+_, _*_, _-_, _≤_, _<_}
 use native.Mathlib.Omega.{arith}
 use borrow.Author.Tests.{ltb-true, ltb-false, leb-true, leb-false}
-use lib.Dec.{ltb, leb, leb→le, le→leb}
+use lib.Dec.{T, ltb, leb, leb→le, le→leb}
 use lib.IntN.{ℤ, pos, negsuc, natAbs, negℤ, subℕ, _+ℤ_, _-ℤ_, _*ℤ_}
-use lib.Signed.{ltZ, _≤ℤ_}
+use lib.Signed.{ltZ, nonNeg, _≤ℤ_}
 
 abbrev pub up : ℤ → ℕ
 up (pos n) = n
@@ -125,3 +125,13 @@ less-by x y false false e f = inl (omega linear)
 
 pub eq-or-apart : (x y : ℤ) → (x ≡ y) ⊎ (((x +ℤ pos 1) ≤ℤ y) ⊎ ((y +ℤ pos 1) ≤ℤ x))
 eq-or-apart x y = less-by x y (ltZ x y) (ltZ y x) refl refl
+
+-- ---- a number that is not below 0
+
+pub not-negative : {z : ℤ} → pos 0 ≤ℤ z → T (nonNeg z)
+not-negative {z = pos n} h = tt
+not-negative {z = negsuc n} h = absurd (h .le)
+
+pub none-below : {z : ℤ} → pos 0 ≤ℤ z → dn z ≡ 0
+none-below {z = pos n} h = refl
+none-below {z = negsuc n} h = absurd (h .le)

@@ -2,12 +2,12 @@ use mathlib.Core.Path.{_≡_}
 use borrow.Author.Needs.{needs}
 use lib.Dec.{lit≤}
 use Rattle.whole.proofs.Machine.{hold}
-use Rattle.shapes.specs.Limits.{lineLimit}
+use Rattle.shapes.specs.Limits.{lineLimit, thickLimit}
 use Rattle.shapes.specs.declared.Point.{Point}
 use Rattle.shapes.specs.Shape.{Near, LineNear}
 use Rattle.shapes.proofs.Laws.{near-more}
 use Rattle.bresenham.specs.Walk.{stepLimit, Sized}
-use Rattle.parallels.specs.Parallels.{thickLimit, planOf, parallelsOf, Sound}
+use Rattle.parallels.specs.Parallels.{planOf, parallelsOf, Sound}
 use Rattle.parallels.proofs.Steps.{Away}
 use Rattle.parallels.proofs.Laws.{shift}
 use Rattle.parallels.proofs.Plans.{sound-plan}

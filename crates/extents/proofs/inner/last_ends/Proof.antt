@@ -2,7 +2,8 @@
 -- were asked for. Assumes nothing.
 use mathlib.Core.Path.{_≡_, refl, sym, _∙_}
 use mathlib.Core.Bool.{false}
-use Rattle.parallels.specs.Parallels.{thickLimit, Begun, isDone, spare, parallels}
+use Rattle.shapes.specs.Limits.{thickLimit}
+use Rattle.parallels.specs.Parallels.{Begun, isDone, spare, parallels}
 use Rattle.parallels.proofs.Room.{begun-next, begun-less}
 use Rattle.extents.specs.Edges.{lasts}
 use Rattle.extents.proofs.Laws.{lasts-end, lasts-turn}

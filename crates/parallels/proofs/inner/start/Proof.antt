@@ -1,7 +1,7 @@
 use borrow.Author.Needs.{needs}
 use lib.Dec.{lit<}
 use Rattle.whole.proofs.Machine.{hold, literal, fits-add, fits-quot, hold-add, hold-quot}
-use Rattle.parallels.specs.Parallels.{startOf}
+use Rattle.parallels.specs.Parallels.{parallelsStart}
 use Rattle.parallels.proofs.Room.{sized}
 use Rattle.parallels.proofs.Plans.{ready-fresh}
 use Rattle.parallels.proofs.inner.start.Statement.{statement}
@@ -19,7 +19,7 @@ div-accumulator c =
     (lit< tt, fits-quot (hold-add (hold (p .loss-small) tt) (hold (p .gain-small) tt) tt) (literal 2 tt) tt)
 
 returns : tie.Need-returns
-unfolding startOf
+unfolding parallelsStart
 returns c =
     let p = sized (c .before .before .before .before .before .before .before .pre .0 .along-fair) in
     cc (hold-quot (hold-add (hold (p .loss-small) tt) (hold (p .gain-small) tt) tt) (literal 2 tt) tt .is)

@@ -20,7 +20,7 @@ use Rattle.route_joins.specs.Joins.{joinAt, joinCount, areJoinsNear}
 use Rattle.route_joins.proofs.Near.{join-inside}
 use Rattle.route.specs.declared.Joins.{Joins}
 use Rattle.route.specs.Joined.{noJoin, keptIn, joinsOf}
-use Rattle.route.proofs.Lists.{list-drop, tested-more, tested-done}
+use Rattle.whole.proofs.Lists.{list-drop, tested-more, tested-done}
 use Rattle.route.proofs.inner.joins_of.Statement.{statement}
 use Rattle.route.proofs.inner.joins_of.Tie as tie
 

@@ -9,7 +9,7 @@ use Rattle.whole.proofs.Machine.{le-back}
 use Rattle.whole.proofs.Orders.{ordered}
 use Rattle.whole.proofs.Spans.{fits-between}
 use Rattle.shapes.specs.declared.Span.{Span}
-use Rattle.shapes.specs.Spans.{isEmpty, isSound}
+use Rattle.shapes.specs.Spans.{isEmpty, isSpanSound}
 use Rattle.shapes.proofs.spans.is_sound.Statement.{statement}
 use Rattle.shapes.proofs.spans.is_sound.Tie as tie
 
@@ -33,14 +33,14 @@ last-is : (c : tie.Else1) → toZ w64 (ofZ w64 (toZ w64 (ofZ w64 (c .before .bef
 last-is c = rw (toZ-ofZ (known (c .before) .end)) (toZ-ofZ (last-fits c))
 
 returns : tie.Need-returns
-unfolding isSound isEmpty
+unfolding isSpanSound isEmpty
 returns c = let k = known (c .before) in simp (le-back (k .end) (k .start) (c .if1 .taken))
 
 sub-within : tie.Need-sub-within
 sub-within c = rw (toZ-ofZ (known (c .before .before) .end)) (last-fits (c .before))
 
 returns-2 : tie.Need-returns-2
-unfolding isSound isEmpty
+unfolding isSpanSound isEmpty
 returns-2 c =
     let e = c .before .before .before in
     let k = known (e .before) in

@@ -4,7 +4,8 @@ use mathlib.Core.Bool.{false}
 use Prim.Native.Nat.{_+_}
 use native.Mathlib.Omega.{arith}
 use lib.ListN.{length}
-use Rattle.parallels.specs.Parallels.{thickLimit, Begun, isDone, spare, parallels}
+use Rattle.shapes.specs.Limits.{thickLimit}
+use Rattle.parallels.specs.Parallels.{Begun, isDone, spare, parallels}
 use Rattle.parallels.proofs.Room.{begun-next, begun-less}
 use Rattle.thick_points.specs.Listing.{toldAll}
 use Rattle.thick_points.proofs.Lists.{told-few, told-length, told-end}

@@ -4,12 +4,12 @@ use borrow.Author.Needs.{needs}
 use denote.Ref.{now}
 use lib.ListN.{length}
 use mir.Facts.{toZ-ofZ}
-use Rattle.shapes.specs.Limits.{lineLimit}
+use Rattle.shapes.specs.Limits.{lineLimit, thickLimit}
 use Rattle.shapes.specs.Shape.{LineNear, isLineNear}
 use Rattle.shapes.specs.Strokes.{Thin, strokeRefusal}
 use Rattle.shapes.proofs.Laws.{line-near-iff, line-near-more}
 use Rattle.shapes.proofs.Widths.{thin-held, stroke-none}
-use Rattle.parallels.specs.Parallels.{thickLimit, planOf, parallels, parallelsOf, Sound, Begun}
+use Rattle.parallels.specs.Parallels.{planOf, parallels, parallelsOf, Sound, Begun}
 use Rattle.parallels.proofs.Plans.{sound-plan}
 use Rattle.parallels.proofs.Room.{thin-thick, begun-start}
 use Rattle.thick_points.specs.Listing.{toldAll, toldNumbers}

@@ -6,7 +6,8 @@ use Prim.Native.Nat.{_+_, _≤_}
 use native.Mathlib.Omega.{arith}
 use lib.ListN.{length}
 use lib.Seq.{sets}
-use Rattle.parallels.specs.Parallels.{thickLimit, Begun, isDone, spare, parallels}
+use Rattle.shapes.specs.Limits.{thickLimit}
+use Rattle.parallels.specs.Parallels.{Begun, isDone, spare, parallels}
 use Rattle.parallels.proofs.Room.{begun-next, begun-less}
 use Rattle.thick_points.specs.Listing.{sizeOf, toldAll}
 use Rattle.thick_points.proofs.Lists.{told-length, told-stored, told-end, walk-yield}
