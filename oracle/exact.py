@@ -376,6 +376,39 @@ def fields_of_file(k, *data):
     return " | ".join(parts)
 
 
+def fields_of_rows(width, _offset, row, count, *coordinates):
+    """Whether the route has rows, the first and the last; its runs on a row in a list of six numbers, which were -7; open, closed."""
+
+    def drawn(closed):
+        points = route(width, count, coordinates, closed)
+        found = (walks.closed_segments if closed else walks.open_segments)(points, width)
+        refuse_corners(*(join for segment in found for join in segment))
+        return found
+
+    def range_words(closed):
+        number = number_of(drawn, closed)
+        rows = [] if number else walks.rows_of(drawn(closed))
+        return words(number, truth(rows), *((rows[0], rows[-1]) if rows else (0, 0)))
+
+    def listed_runs(closed):
+        found = drawn(closed)
+        refuse(6, beyond(CORNER_LIMIT, [row]))
+        lit = set()
+        for segment in found:
+            lit.update(range(*walks.span_on(segment, row)))
+        runs = walks.runs_of(lit)
+        refuse(8, len(runs) > 3)
+        return runs
+
+    def row_words(closed):
+        number = number_of(listed_runs, closed)
+        runs = [] if number else listed_runs(closed)
+        total = sum(end - start for start, end in runs)
+        return words(number, len(runs), total, *flat(runs), *[-7] * (6 - 2 * len(runs)))
+
+    return " | ".join([range_words(False), range_words(True), row_words(False), row_words(True)])
+
+
 KINDS = {
     "e": equation,
     "d": distance,
@@ -403,6 +436,7 @@ KINDS = {
     "y": taken_span,
     "g": each_line_of_join,
     "h": fields_of_file,
+    "w": fields_of_rows,
 }
 
 

@@ -1,4 +1,4 @@
-"""The questions of the list `fields`: kinds o, v, y, g and h, all fields of an answer; and two faults at once of m and u.
+"""The questions of the list `fields`: kinds o, v, y, g, h and w, all fields of an answer; and two faults at once of m and u.
 
 Each answer is worked out by hand from document 01 and stands here; the exact calculation must say the same. The Rust has no
 refusals, and is not asked.
@@ -6,7 +6,7 @@ refusals, and is not asked.
 
 from exact import words
 
-KINDS = "ovyghmu"
+KINDS = "ovyghwmu"
 BY_HAND = True
 
 # 257 points, all (0,0).
@@ -79,6 +79,37 @@ LINES = [
     )
 ]
 
+NO_RUNS = "0 0 -7 -7 -7 -7 -7 -7"
+
+
+def refused_rows(number):
+    """Open and closed, the rows and the row."""
+    return " | ".join([f"{number} false 0 0"] * 2 + [f"{number} {NO_RUNS}"] * 2)
+
+
+# Document 01's line, of which the row 0 is 0 to 4, and its row 2, which has no run. A point alone has no rows, and closed it is refused.
+# Legs of width 1, 40 high and 20 apart, lie on the columns 0, 20, 40 and 60: six numbers hold three runs. Closed, the diagonal back from
+# (40,40) to (0,0) meets the row 20 at 20. Then one fault each, and two at once.
+THREE_LEGS = "12 0 0 0 40 20 40 20 0 40 0 40 40"
+FOUR_LEGS = "16 0 0 0 40 20 40 20 0 40 0 40 40 60 40 60 0"
+ROWS = [
+    ("w 3 0 0 4 0 0 3 0", " | ".join(["0 true -1 1"] * 2 + ["0 1 4 0 4 -7 -7 -7 -7"] * 2)),
+    ("w 3 0 2 4 0 0 3 0", " | ".join(["0 true -1 1"] * 2 + [f"0 {NO_RUNS}"] * 2)),
+    ("w 3 0 7 0", " | ".join(["0 false 0 0"] * 2 + [f"0 {NO_RUNS}"] * 2)),
+    ("w 3 0 7 2 0 0", f"0 false 0 0 | 2 false 0 0 | 0 {NO_RUNS} | 2 {NO_RUNS}"),
+    (f"w 1 0 20 {THREE_LEGS}", " | ".join(["0 true 0 40"] * 2 + ["0 3 3 0 1 20 21 40 41"] * 2)),
+    (f"w 1 0 20 {FOUR_LEGS}", " | ".join(["0 true 0 40"] * 2 + [f"8 {NO_RUNS}"] * 2)),
+    ("w 3 0 4096 4 0 0 3 0", " | ".join(["0 true -1 1"] * 2 + [f"6 {NO_RUNS}"] * 2)),
+    ("w 3 0 0 3 0 0 3", refused_rows(1)),
+    (f"w 3 0 0 {MANY}", refused_rows(2)),
+    ("w 65 0 0 4 0 0 3 0", refused_rows(3)),
+    ("w 3 0 0 4 0 0 512 0", refused_rows(4)),
+    ("w 65 0 4096 3 0 0 512", refused_rows(1)),
+    ("w 65 0 4096 4 0 0 512 0", refused_rows(3)),
+    ("w 3 0 -4096 4 0 0 0 -512", refused_rows(4)),
+    (f"w 1 0 4096 {FOUR_LEGS}", " | ".join(["0 true 0 40"] * 2 + [f"6 {NO_RUNS}"] * 2)),
+]
+
 # A coordinate and a row, a coordinate and a column, all three; rows that differ and a column.
 TWO_FAULTS = [
     ("m 4096 0 3 3 4096 2 6", "refused 4"),
@@ -131,13 +162,14 @@ FILES = [
     (asked(0, "0100 1C00 0C00 0400 0300 0200 0000 0000 0100 0000 0100 0100 0000 0100"), WRONG),
 ]
 
-WORKED = STARTS + NEXT + TAKEN + LINES + FILES + TWO_FAULTS
+WORKED = STARTS + NEXT + TAKEN + LINES + FILES + ROWS + TWO_FAULTS
 CLASSES = {
     "starts of the three walks": STARTS,
     "the polyline's next": NEXT,
     "try_take": TAKEN,
     "filler lines and caps, each entry by itself": LINES,
     "entries of a route file": FILES,
+    "rows of a route": ROWS,
     "two faults of lines and spans": TWO_FAULTS,
 }
 

@@ -4,6 +4,7 @@ mod boards; // boards.rt: histories of boards
 mod files; // files.rt: route files
 mod joins; // joins.rt: joins, and the lines of a join handed in
 mod lines; // lines.rt: equations, sides and crossings
+mod rows; // rows.rt: the rows of a route
 mod segments; // segments.rt: segments between two joins, and spans
 mod strokes; // strokes.rt: extents, parallels and thick points
 mod walks; // walks.rt: walks along a route, and its merged spans
@@ -63,7 +64,7 @@ fn answer_kind(kind: u8, questions: &[u8], at: usize) {
     if is_among(kind, b"krmuy ") {
         return segments::answer(kind, questions, at);
     }
-    if is_among(kind, b"OCNMov ") {
+    if is_among(kind, b"OCNMovw ") {
         return walks::answer(kind, questions, at);
     }
     if kind == b'h' {

@@ -1,4 +1,5 @@
 //! Questions on walks along a route, and on its merged spans.
+use crate::rows::say_rows;
 use closed_thick_segment_iter::Walk as ClosedWalk;
 use route_joins::Step;
 use scanline_intersections::Intersections;
@@ -84,6 +85,7 @@ fn answer_kind(asked: Asked, coordinates: &[i64]) {
         b'M' => say_all(coordinates, begin_merged(coordinates, width, row)),
         b'o' => say_starts(coordinates, width, offset, row),
         b'v' => say_next_of(coordinates, width, row),
+        b'w' => say_rows(coordinates, width, row),
         _ => {}
     }
 }
