@@ -10,7 +10,7 @@ use Rattle.shapes.specs.declared.Side.the-variants.{Left, Right}
 use Rattle.shapes.specs.declared.Offset.the-variants.{None}
 use Rattle.parallels.specs.declared.Parallel.{Parallel}
 use Rattle.shapes.specs.Strokes.{isThin, strokeRefusal}
-use Rattle.line_join.specs.Answers.{joinValues, madeOf, answerOf, pointsAnswer}
+use Rattle.line_join.specs.Answers.{joinValues, madeOf, joinAnswer, pointsAnswer}
 use Rattle.line_join.specs.Miter.{miterLimit, reaches}
 use Rattle.line_join.specs.Caps.{isCornersNear, isJoinNear}
 use Rattle.line_join.specs.Join.{meet, overlapping, bentAt, bentOf, startOf, joinOf}
@@ -63,5 +63,5 @@ unfolding seen lasts closed extentsOf bent turnOf nextParallel samePoint aimed t
 second-edges = rw second-parallels
 
 pub legs-of-216 : Holds legsOf216
-unfolding Holds legsOf216 joinValues madeOf answerOf pointsAnswer isThin strokeRefusal miterLimit reaches isCornersNear isJoinNear meet overlapping bentAt bentOf startOf joinOf cramerOf solutionOf sideOf drawnOf crossingOf nearlyColinear equationOf distanceOf isOnSide isNear isLineNear plus minus quarterTurn determinant dotProduct squaredLength delta isWithin rounded
+unfolding Holds legsOf216 joinValues madeOf joinAnswer pointsAnswer isThin strokeRefusal miterLimit reaches isCornersNear isJoinNear meet overlapping bentAt bentOf startOf joinOf cramerOf solutionOf sideOf drawnOf crossingOf nearlyColinear equationOf distanceOf isOnSide isNear isLineNear plus minus quarterTurn determinant dotProduct squaredLength delta isWithin rounded
 legs-of-216 = rw (first-edges, second-edges)

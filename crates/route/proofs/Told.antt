@@ -92,7 +92,10 @@ module _ (limits : Limits) (closed : Bool) (cs : List ℤ) (w row : ℤ) (out : 
         let union = row-covered k (a .0) (joins-exactly k closed cs w .1 (a .1)) row inside (z .1 .1) in
         let room = list-zero k b (length out) .1 (rw same at sound, rw same at (none .1)) in
         let written : runsIn (rowAnswer limits closed cs w row (length out) .count) (rowTo limits closed cs w row out) ≡ runsAfter k row history = rw (answer-is, list-is) (demand .written out room) in
+        let count = ap (λ l. l .count) answer-is ∙ demand .counted out room in
         record {
+          counted = count ∙ ap length (sym written);
+          beyond = rw (count, list-is) (demand .beyond out);
           lights = λ x. ap (λ rs. lit rs x) written ∙ demand .exact x ∙ union x;
           apart = rw written (demand .apart);
           pixels =

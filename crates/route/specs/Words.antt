@@ -3,9 +3,9 @@
 use mathlib.Core.Path.{_≡_}
 use mathlib.Core.Bool.{Bool, true}
 use mathlib.Core.List.{List, [], _∷_, _++_}
-use Prim.Native.Nat.{ℕ, _<_}
+use Prim.Native.Nat.{ℕ, _*_, _<_}
 use lib.IntN.{ℤ, pos}
-use lib.ListN.{length}
+use lib.ListN.{length, drop}
 use lib.Signed.{_≤ℤ_}
 use Rattle.whole.specs.Places.{listFrom}
 use Rattle.shapes.specs.Limits.{boardRuns}
@@ -37,10 +37,12 @@ pub record Crowded (ss : List Span) : Type 0 where
   pub needs : (rs : List Run) → Lights rs (covered (span ∷ before)) → boardRuns < length rs
 
 -- what a row that is not refused leaves: the runs in the lent list light just the columns that some span covers, they ascend with a dark
--- column between, and the total is the number of these columns
+-- column between, they are as many as is answered, and the total is the number of these columns; what stands in the list beyond them stays
 pub record RowTold (limits : Limits) (closed : Bool) (cs : List ℤ) (w row : ℤ) (out : List ℤ) : Type 0 where
   pub lights : Lights (runsIn (rowAnswer limits closed cs w row (length out) .count) (rowTo limits closed cs w row out)) (covered (spansOn closed cs w row))
   pub apart : Ascending (limits .corner) (edge (limits .corner)) (runsIn (rowAnswer limits closed cs w row (length out) .count) (rowTo limits closed cs w row out))
+  pub counted : rowAnswer limits closed cs w row (length out) .count ≡ length (runsIn (rowAnswer limits closed cs w row (length out) .count) (rowTo limits closed cs w row out))
+  pub beyond : drop (2 * rowAnswer limits closed cs w row (length out) .count) (rowTo limits closed cs w row out) ≡ drop (2 * rowAnswer limits closed cs w row (length out) .count) out
   pub pixels : rowAnswer limits closed cs w row (length out) .total ≡ pos (columns (limits .corner) (covered (spansOn closed cs w row)))
 
 -- one of the rows of a route has no room

@@ -1,6 +1,6 @@
 -- A walk, whatever its segments are: what its steps answer, and where they leave it. Assumes nothing.
 use mathlib.Core.Path.{_≡_, refl, sym, ap, _∙_}
-use mathlib.Core.Logic.{_↔_}
+use mathlib.Core.Logic.{_↔_, _≢_}
 use mathlib.Core.Bool.{Bool, true, false, cond}
 use mathlib.Core.List.{List}
 use Prim.Native.Nat.{ℕ, zero, suc, _+_, _≤_, _<_}
@@ -49,7 +49,11 @@ module _ (k refusal count : ℕ) (segment : ℕ → Segment) (place : ℕ) where
       unfolding stepAt checked
       step-corner e = rw (eq-eqb refusal 0 none, lt-ltb place count more, e)
 
--- where an answer leaves the walk
+-- where an answer leaves the walk: where no segment is answered, it stays
+pub place-kept : (v : StepValues) (place : ℕ) → v .found ≢ 1 → placeFrom v place ≡ place
+unfolding placeFrom
+place-kept v place other = rw (ne-eqb (v .found) 1 other)
+
 moved-on : {v : StepValues} (s : Segment) → v ≡ stepValues (Drawn s) → (place : ℕ) → placeFrom v place ≡ place + 1
 unfolding placeFrom stepValues
 moved-on s e place = rw e

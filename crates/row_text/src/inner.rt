@@ -5,7 +5,7 @@ ghost use Rattle.whole.specs.Number.{Within};
 ghost use Rattle.shapes.specs.Limits.{lineLimit, boardRuns, Roomy};
 ghost use Rattle.route_file.specs.Form.{Formed};
 ghost use Rattle.route.specs.Joined.{Kept};
-ghost use Rattle.route.specs.Rows.{RowsNear};
+ghost use Rattle.route.specs.Rows.{RowsNear, boardOn, rowsRefusal};
 ghost use Rattle.row_text.specs.Pixels.{litOn, litIn, routePixels, entryPixels, allPixels};
 use board::Board;
 use board::Run;
@@ -52,10 +52,11 @@ fn print_runs(k: usize, board: Board)
     }
 }
 
-/// Prints the runs of a row's board, and answers their pixels.
+/// Prints the runs of a row that has room for them, and answers their pixels.
 fn print_row(k: usize, route: Joins, row: i64) -> i64
     requires { ⌜ Kept lineLimit route ⌝ }
     requires { ⌜ Within row lineLimit ⌝ }
+    requires { ⌜ boardOn route row .refusal ≡ 0 ⌝ }
     ensures { λ r. ⌜ r ≡ litOn route row ⌝ }
 {
     let board = row_board(route, row).board;
@@ -63,10 +64,11 @@ fn print_row(k: usize, route: Joins, row: i64) -> i64
     total_of(board)
 }
 
-/// Prints the runs of a route's rows, rows ascending, and answers their pixels.
+/// Prints the runs of a route that has no refused row, rows ascending, and answers their pixels.
 fn print_rows(k: usize, route: Joins, rows: RowRange) -> i64
     requires { ⌜ Kept lineLimit route ⌝ }
     requires { ⌜ RowsNear lineLimit rows ⌝ }
+    requires { ⌜ rowsRefusal route rows ≡ 0 ⌝ }
     ensures { λ r. ⌜ r ≡ litIn route rows ⌝ }
 {
     let n = row_count(rows);

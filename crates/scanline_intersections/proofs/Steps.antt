@@ -1,7 +1,7 @@
 -- `next_segment` from a start: the segments that the Rust's gives, in turn. Refusals are those of the list and the width, and then 5.
 -- Assumes nothing.
 use mathlib.Core.Path.{_≡_, refl, sym, ap, _∙_}
-use mathlib.Core.Logic.{_↔_}
+use mathlib.Core.Logic.{_↔_, _≢_}
 use mathlib.Core.Bool.{false}
 use mathlib.Core.List.{List}
 use Prim.Native.Nat.{ℕ, _+_, _≤_, _<_}
@@ -20,7 +20,7 @@ use Rattle.coordinates.proofs.Laws.{accepted-exactly}
 use Rattle.route_joins.specs.declared.Step.the-variants.{Drawn}
 use Rattle.route_joins.specs.Joins.{openSegment, openCount}
 use Rattle.route_joins.specs.Steps.{stepValues, afterSteps, SegmentBySegment}
-use Rattle.route_joins.proofs.Walks.{route-in-turn, route-five, route-other}
+use Rattle.route_joins.proofs.Walks.{place-kept, route-in-turn, route-five, route-other}
 use Rattle.thick_segment_iter.specs.Walks.{openStep, afterOpen}
 use Rattle.scanline_intersections.specs.declared.Intersections.{Intersections}
 use Rattle.scanline_intersections.specs.Merging.{walkOf}
@@ -54,6 +54,11 @@ module _ (limits : Limits) (cs : List ℤ) (walk : Intersections) where
   pub places-equal : afterPolyline limits cs walk .place ≡ afterOpen limits cs (record { place = walk .place; width = walk .width }) .place
   unfolding afterPolyline afterOpen
   places-equal = rw steps-equal
+
+  -- where no segment is answered, refused or at the end, the walk is as it was
+  pub step-kept : polylineStep limits cs walk .found ≢ 1 → afterPolyline limits cs walk ≡ walk
+  unfolding afterPolyline
+  step-kept other = rw (place-kept (polylineStep limits cs walk) (walk .place) other)
 
   -- ---- the refusals of a step: 1 to 4 as of the list and the width
 

@@ -1,6 +1,6 @@
 -- The open walk, segment by segment. Refusals are those of the list and the width, and then 5. Assumes nothing.
 use mathlib.Core.Path.{_≡_, refl}
-use mathlib.Core.Logic.{_↔_}
+use mathlib.Core.Logic.{_↔_, _≢_}
 use mathlib.Core.Bool.{false}
 use mathlib.Core.List.{List}
 use Prim.Native.Nat.{ℕ, _<_}
@@ -15,7 +15,7 @@ use Rattle.coordinates.specs.Refusal.{routeRefusal, Accepted}
 use Rattle.coordinates.proofs.Laws.{accepted-exactly}
 use Rattle.route_joins.specs.Joins.{openSegment, openCount}
 use Rattle.route_joins.specs.Steps.{SegmentBySegment}
-use Rattle.route_joins.proofs.Walks.{route-in-turn, route-five, route-other, refusal-told}
+use Rattle.route_joins.proofs.Walks.{place-kept, route-in-turn, route-five, route-other, refusal-told}
 use Rattle.thick_segment_iter.specs.declared.Walk.{Walk}
 use Rattle.thick_segment_iter.specs.declared.Started.{Started}
 use Rattle.thick_segment_iter.specs.Walks.{openStart, openStep, afterOpen}
@@ -44,6 +44,11 @@ module _ (limits : Limits) (cs : List ℤ) (walk : Walk) where
   pub step-other : {n : ℕ} → 0 < n → (n ≡ 5 → ⊥) → (openStep limits cs walk .refusal ≡ n) ↔ (routeRefusal (limits .point) false cs (walk .width) ≡ n)
   unfolding openStep
   step-other = route-other limits false cs (walk .width) None (walk .place)
+
+  -- where no segment is answered, refused or at the end, the walk is as it was
+  pub step-kept : openStep limits cs walk .found ≢ 1 → afterOpen limits cs walk ≡ walk
+  unfolding afterOpen
+  step-kept other = rw (place-kept (openStep limits cs walk) (walk .place) other)
 
 -- ---- a start is refused with 1 to 4 alone; refused, its walk is all 0
 

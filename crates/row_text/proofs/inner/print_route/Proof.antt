@@ -48,9 +48,10 @@ returns-2 c =
 
 print-rows-requires : tie.Need-print-rows-requires
 print-rows-requires c κs =
-    let o = c .before .before in
+    let r = c .before in
+    let o = r .before in
     let kept = free (o .before .before) .kept in
-    (kept, rw (o .rows-of .ensures) (rows-near kept))
+    (kept, (rw (o .rows-of .ensures) (rows-near kept), omega (arith, r .rows-refusal .ensures, c .if2 .left)))
 
 returns-3 : tie.Need-returns-3
 returns-3 c =

@@ -16,7 +16,7 @@ drawn : (c : tie.After-row-board) → c .row-board .result ≡ boardOn (c .befor
 drawn c = cc (toZ-ofZ (c .before .fits .row))
 
 sound : (c : tie.After-row-board) → Sound lineLimit (c .row-board .result .board)
-sound c = subst (λ a. Sound lineLimit (a .board)) (sym (drawn c)) (drawn-sound (c .before .pre .0) (c .before .pre .1))
+sound c = subst (λ a. Sound lineLimit (a .board)) (sym (drawn c)) (drawn-sound (c .before .pre .0) (c .before .pre .1 .0))
 
 returns : tie.Need-returns
 unfolding litOn
