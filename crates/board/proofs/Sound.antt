@@ -5,7 +5,6 @@ use mathlib.Core.List.{List, [], _∷_}
 use mathlib.Core.Logic.{_↔_}
 use Prim.Native.Nat.{ℕ, zero, suc, _≤_, _<_}
 use native.Mathlib.Omega.{arith}
-use borrow.Author.Tests.{leb-true, le-leb}
 use lib.Dec.{leb}
 use lib.IntN.{ℤ, pos}
 use lib.ListN.{length, getD}
@@ -15,7 +14,7 @@ use Rattle.whole.proofs.Bounds.{within-more}
 use Rattle.whole.proofs.Laws.{within-iff}
 use Rattle.whole.proofs.Linear.{abs-le}
 use Rattle.whole.proofs.Orders.{ordered}
-use Rattle.whole.proofs.Tests.{and-iff, lt-iff, le-iff}
+use Rattle.whole.proofs.Tests.{and-iff, lt-iff, le-iff, leb-iff}
 use Rattle.shapes.specs.Limits.{boardRuns}
 use Rattle.board.specs.declared.Run.{Run}
 use Rattle.board.specs.declared.Board.{Board}
@@ -40,9 +39,6 @@ ascending-iff k last (r ∷ rs) =
   where
     parts : {k : ℕ} {last : ℤ} {r : Run} {rs : List Run} → Ascending k last (r ∷ rs) → Follows k last r × Ascending k (r .end) rs
     parts (then f a) = (f, a)
-
-pub leb-iff : (m n : ℕ) → (leb m n ≡ true) ↔ (m ≤ n)
-leb-iff m n = (leb-true m n, le-leb m n)
 
 -- 6 is given for a board exactly where this test fails
 pub sound-iff : (k : ℕ) (b : Board) → (isSound k b ≡ true) ↔ Sound k b

@@ -157,9 +157,6 @@ demand-3 k y w es =
 pub reached-sound : (k : ℕ) (y : ℤ) → Within y k → (es : List Event) → Sound k (boardAfter k y es)
 reached-sound k y w es = holds es (begun-holds w) .sound
 
-pub reached-row : (k : ℕ) (y : ℤ) → Within y k → (es : List Event) → boardAfter k y es .row ≡ y
-reached-row k y w es = holds es (begun-holds w) .row
-
 -- the history that offers the runs of a list, the last of them first
 offering : ℤ → List Run → List Event
 offering y [] = []

@@ -152,13 +152,6 @@ offered-added {k} {b} {s} o =
 pub offered-number : {k : ℕ} {b : Board} {s : Span} → Offerable k b s → offerRefusal k b s ≡ added b s .refusal
 offered-number o = ap (λ a. a .refusal) (offered-added o)
 
-pub offered-row : (k : ℕ) (b : Board) (s : Span) → offered k b s .board .row ≡ b .row
-offered-row k b s = offered-cases b s (λ a. a .board .row ≡ b .row) k (λ _. refl) (λ _ _ _. refl) (λ _. added-row b s)
-
-pub offered-sound : {k : ℕ} {b : Board} (s : Span) → Sound k b → Sound k (offered k b s .board)
-offered-sound {k} {b} s sound =
-    offered-cases b s (λ a. Sound k (a .board)) k (λ _. sound) (λ _ _ _. sound) (λ o. added-sound sound (o .proper .inside))
-
 -- each number exactly when, in 01's order
 module _ (k : ℕ) (b : Board) (s : Span) where
   other-number : (n : ℕ) → 0 < n → n < 8 → added b s .refusal ≡ n → ⊥

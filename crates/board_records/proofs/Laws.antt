@@ -1,7 +1,7 @@
 -- Laws of the second listing: when it is refused, and what it answers and writes. Assumes nothing.
 use mathlib.Core.Path.{_≡_, refl, sym, ap, _∙_}
 use mathlib.Core.Bool.{Bool, true, false, cond}
-use mathlib.Core.List.{List, [], _++_}
+use mathlib.Core.List.{List, _++_}
 use mathlib.Core.Logic.{_↔_, _≢_}
 use Prim.Native.Nat.{ℕ, _*_, _≤_, zero-le}
 use native.Mathlib.Omega.{arith}
@@ -9,12 +9,12 @@ use lib.Dec.{leb}
 use lib.IntN.{ℤ}
 use lib.ListN.{length, take, drop, take-append-drop}
 use lib.Seq.{take-append-seam}
-use Rattle.whole.proofs.Tests.{and-iff}
+use Rattle.whole.proofs.Tests.{and-iff, leb-iff}
 use Rattle.shapes.specs.Limits.{boardRuns}
 use Rattle.board.specs.declared.Run.{Run}
 use Rattle.board.specs.declared.Board.{Board}
 use Rattle.board.specs.Boards.{live, Sound, isSound, notListed, listing, over}
-use Rattle.board.proofs.Sound.{leb-iff, sound-iff}
+use Rattle.board.proofs.Sound.{sound-iff}
 use Rattle.board_laws.proofs.Offers.{live-few}
 use Rattle.board_laws.proofs.Refused.{answer, accepted-by, refused-by, written-by, kept-by, zero-by, six-by, eight-by}
 use Rattle.board_records.specs.Records.{hasRoom, bothRefusal, bothListed, numbersTo, recordsOver, recordsTo}

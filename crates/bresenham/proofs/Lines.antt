@@ -1,6 +1,6 @@
 -- The points of a line, in closed form: the n-th of them, and which pixels they are. Assumes nothing.
-use mathlib.Core.Path.{_≡_, refl, sym, ap, _∙_}
-use mathlib.Core.Logic.{_⊎_, inl, inr, ⊎-elim}
+use mathlib.Core.Path.{_≡_, refl, ap, _∙_}
+use mathlib.Core.Logic.{_⊎_, ⊎-elim}
 use mathlib.Core.Bool.{Bool, true, false, cond}
 use mathlib.Core.List.{List·Memᴰ, List·Memᴰ·head, List·Memᴰ·tail, List·Memᴰ·not-nil, List·Memᴰ·cases-cons, Memᴰ·cast}
 use Prim.Native.Nat.{ℕ, zero, suc, _+_, _*_, _-_, _≤_, _<_}
@@ -8,7 +8,7 @@ use native.Mathlib.Nat.{le-refl}
 use native.Mathlib.Omega.{arith}
 use borrow.Author.Tests.{ltb-true, ltb-false}
 use lib.Dec.{ltb}
-use lib.IntN.{ℤ, pos, negsuc, natAbs, negℤ, _+ℤ_, _-ℤ_, _*ℤ_}
+use lib.IntN.{ℤ, pos, negsuc, natAbs, _+ℤ_, _-ℤ_, _*ℤ_}
 use lib.Signed.{ltZ, _≤ℤ_}
 use Rattle.whole.proofs.Linear.{up, dn, linear, sum, opp, diff, neg-abs, pos-abs, le-or-lt}
 use Rattle.whole.proofs.Steps.{parts}
@@ -16,10 +16,10 @@ use Rattle.whole.proofs.Laws.{lesser-le, le-greater, lesser-one, greater-one}
 use Rattle.whole.proofs.Ring.{con, _⊕_, _⊖_, _⊗_, _≈_, ring}
 use Rattle.shapes.specs.declared.Point.{Point}
 use Rattle.shapes.specs.declared.Line.{Line}
-use Rattle.shapes.specs.Shape.{pointOf, minus, delta}
+use Rattle.shapes.specs.Shape.{minus, delta}
 use Rattle.bresenham.specs.Walk.{directionOf, along, parametersOf}
 use Rattle.bresenham.specs.Points.{majorLength, linePoints}
-use Rattle.bresenham.specs.Paces.{Paced, turnsAt, moved, movedTo, valuesFrom, wide, tall, steep, stepsFrom, pixelAt, acrossAt, downAt, pointAt, Passes, Between}
+use Rattle.bresenham.specs.Paces.{turnsAt, moved, movedTo, valuesFrom, wide, tall, steep, stepsFrom, pixelAt, acrossAt, downAt, pointAt, Passes, Between}
 use Rattle.bresenham.proofs.Laws.{across, down, isSteep, longer, shorter, parameters-are, sides}
 use Rattle.bresenham.proofs.Paces.{turns-within, within-turns, turns-mono, turns-most, walk-points}
 

@@ -3,7 +3,7 @@
 use mathlib.Core.Path.{_≡_, refl, sym, ap, _∙_}
 use mathlib.Core.Logic.{_↔_, _⊎_, ⊎-elim}
 use mathlib.Core.Bool.{Bool, true, false, cond}
-use Prim.Native.Nat.{ℕ, zero, suc, _+_, _*_, _-_, _/_, _≤_, _<_}
+use Prim.Native.Nat.{ℕ, zero, suc, _+_, _*_, _-_, _≤_, _<_}
 use native.Mathlib.Nat.{le-refl, zero-add, add-zero, mul-le-mul-right, div-zero, div-mul-le-self, lt-div-mul-add, le-div-iff-mul-le, div-lt-iff-lt-mul, div-eq-of-lt-le}
 use native.Mathlib.Omega.{arith}
 use lib.IntN.{ℤ, pos, negℤ, _+ℤ_, _-ℤ_}
@@ -11,9 +11,8 @@ use lib.Signed.{ltZ}
 use Rattle.whole.proofs.Linear.{linear, sum, diff, le-or-lt}
 use Rattle.whole.proofs.Ring.{con, neg, _⊕_, _⊖_, _⊗_, _≈_, ring}
 use Rattle.shapes.specs.declared.Point.{Point}
-use Rattle.shapes.specs.Shape.{pointOf, plus}
+use Rattle.shapes.specs.Shape.{plus}
 use Rattle.bresenham.specs.declared.Parameters.{Parameters}
-use Rattle.bresenham.specs.declared.Bresenham.{Bresenham}
 use Rattle.bresenham.specs.Walk.{placeOf, along, turned, handed, nextOf}
 use Rattle.bresenham.specs.Points.{pointsFrom}
 use Rattle.bresenham.specs.Paces.{counted, turns, Paced, turnsAt, moved, movedTo, valuesFrom}

@@ -3,7 +3,7 @@ use mathlib.Core.Path.{_≡_, sym, ap, _∙_}
 use mathlib.Core.Logic.{_↔_, _⊎_}
 use mathlib.Core.Bool.{Bool, true}
 use mathlib.Core.List.{List, []}
-use Prim.Native.Nat.{ℕ, _<_}
+use Prim.Native.Nat.{ℕ}
 use native.Mathlib.Nat.{zero-add}
 use lib.IntN.{ℤ}
 use Rattle.whole.specs.Number.{Within}
@@ -16,9 +16,9 @@ use Rattle.board.specs.Boards.{Sound, boardOf}
 use Rattle.board_laws.specs.Histories.{covered, boardAfter, spansAfter}
 use Rattle.board_laws.specs.Offers.{Proper}
 use Rattle.coordinates.specs.Refusal.{Accepted}
-use Rattle.route_joins.specs.Joins.{joinCount, segmentsOf, segmentAt, segmentCount, areJoinsNear}
+use Rattle.route_joins.specs.Joins.{joinCount, segmentsOf, segmentAt, areJoinsNear}
 use Rattle.route.specs.declared.Joins.{Joins}
-use Rattle.route.specs.Joined.{Kept, joinsOf, segmentsIn, segmentIn}
+use Rattle.route.specs.Joined.{Kept, joinsOf, segmentsIn}
 use Rattle.route.specs.Rows.{offerAll, spanIn, boardOn}
 use Rattle.route.specs.Words.{spansOn, offering, Crowded}
 use Rattle.whole.proofs.Lists.{list-same}

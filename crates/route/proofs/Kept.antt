@@ -1,9 +1,9 @@
 -- The joins that a route keeps are its joins, and the segments between them are those of the walk. Assumes nothing.
-use mathlib.Core.Path.{_≡_, refl, sym, ap, _∙_}
+use mathlib.Core.Path.{_≡_, refl, _∙_}
 use mathlib.Core.Logic.{_⊎_, inl, inr, ⊎-elim}
 use mathlib.Core.Bool.{Bool, true, false, cond}
 use mathlib.Core.List.{List}
-use Prim.Native.Nat.{ℕ, _+_, _-_, _≤_, _<_}
+use Prim.Native.Nat.{ℕ, _-_, _≤_, _<_}
 use native.Mathlib.Nat.{zero-add}
 use native.Mathlib.Omega.{arith}
 use borrow.Author.Tests.{leb-true, leb-false}
@@ -15,12 +15,11 @@ use Rattle.whole.proofs.Places.{list-length, list-at}
 use Rattle.shapes.specs.Limits.{routePoints}
 use Rattle.line_join.specs.declared.Join.{Join}
 use Rattle.line_join.proofs.Room.{join-near-more}
-use Rattle.thick_segment.specs.declared.Segment.{Segment}
 use Rattle.thick_segment.specs.Segments.{SegmentNear}
 use Rattle.coordinates.specs.Points.{pointCount}
 use Rattle.coordinates.specs.Refusal.{Accepted}
 use Rattle.route_joins.specs.Joins.{joinAt, joinCount, areJoinsNear, endPlace, segmentsOf, segmentAt, segmentOf, segmentCount}
-use Rattle.route_joins.proofs.Near.{join-inside, place-inside, joins-exactly}
+use Rattle.route_joins.proofs.Near.{place-inside, joins-exactly}
 use Rattle.route.specs.declared.Joins.{Joins}
 use Rattle.route.specs.Joined.{noJoin, keptIn, joinsOf, Kept, segmentsIn, segmentIn}
 

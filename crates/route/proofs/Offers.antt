@@ -20,8 +20,8 @@ use Rattle.board.specs.declared.Answer.{Answer}
 use Rattle.board.specs.declared.Board.{Board}
 use Rattle.board.specs.declared.Run.{Run}
 use Rattle.board.specs.Runs.{none}
-use Rattle.board.specs.Boards.{Sound, answerOf, added, offerRefusal, offered, begun, boardOf}
-use Rattle.board_laws.specs.Histories.{Event, offers, after, reached, accepted, covered, boardAfter, spansAfter, Lights}
+use Rattle.board.specs.Boards.{Sound, answerOf, added, offerRefusal, begun, boardOf}
+use Rattle.board_laws.specs.Histories.{after, reached, accepted, covered, boardAfter, spansAfter, Lights}
 use Rattle.board_laws.specs.Offers.{Proper, Offerable}
 use Rattle.board_laws.proofs.Offers.{added-cases, added-row, added-either, added-sound, offered-added, sound-of}
 use Rattle.board_laws.proofs.Refused.{fresh-chosen}

@@ -21,7 +21,7 @@ use Rattle.thick_segment.proofs.Laws.{box-near}
 use Rattle.route.specs.declared.Joins.{Joins}
 use Rattle.route.specs.declared.RowRange.{RowRange}
 use Rattle.route.specs.Joined.{Kept, segmentsIn, segmentIn}
-use Rattle.route.specs.Rows.{withBox, withBoxes, boxIn, noRows, rowsIn, RowsNear, rowCount, rowAt}
+use Rattle.route.specs.Rows.{withBox, withBoxes, boxIn, rowsIn, RowsNear, rowCount, rowAt}
 use Rattle.route.proofs.Kept.{segment-near}
 
 -- ---- a segment's box

@@ -1,24 +1,22 @@
 -- Refusals of a route, of its row and of the row's entry, each exactly when 01's table says, in its order. No accepted list of coordinates is
 -- known that meets 5. Assumes nothing.
-use mathlib.Core.Path.{_≡_, refl, sym, ap, _∙_}
+use mathlib.Core.Path.{_≡_, refl, sym, _∙_}
 use mathlib.Core.Logic.{_↔_, _≢_, _⊎_, inl, inr, ⊎-elim}
 use mathlib.Core.Bool.{Bool, true, false, cond}
 use mathlib.Core.List.{List}
 use Prim.Native.Nat.{ℕ, _*_, _≤_, _<_}
 use native.Mathlib.Omega.{arith}
-use Rattle.board.proofs.Sound.{leb-iff}
 use lib.Dec.{eqb, leb}
 use lib.IntN.{ℤ}
 use lib.ListN.{length}
 use Rattle.whole.specs.Number.{Within, isWithin}
 use Rattle.whole.proofs.Laws.{within-iff}
-use Rattle.whole.proofs.Tests.{never, bad-first, good-first, good-later}
+use Rattle.whole.proofs.Tests.{never, bad-first, good-first, good-later, leb-iff}
 use Rattle.shapes.specs.declared.limits.Limits.{Limits}
 use Rattle.shapes.specs.Refusals.{orElse}
 use Rattle.line_join.specs.Caps.{JoinNear}
 use Rattle.board.specs.declared.Answer.{Answer}
 use Rattle.board.specs.declared.Board.{Board}
-use Rattle.board.specs.declared.Listed.{Listed}
 use Rattle.board.specs.declared.Run.{Run}
 use Rattle.board.specs.Boards.{live, told, listing, notListed}
 use Rattle.board_laws.specs.Histories.{boardAfter}

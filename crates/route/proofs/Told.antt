@@ -5,8 +5,7 @@ use mathlib.Core.Logic.{_≢_}
 use mathlib.Core.Bool.{Bool, true, false, cond}
 use mathlib.Core.List.{List}
 use Prim.Native.Nat.{ℕ, _+_, _*_, _≤_}
-use native.Mathlib.Omega.{arith}
-use borrow.Author.Tests.{eqb-true, eq-eqb}
+use borrow.Author.Tests.{eq-eqb}
 use lib.Dec.{eqb, leb}
 use lib.IntN.{ℤ, pos, negℤ}
 use lib.ListN.{length}
@@ -14,7 +13,7 @@ use Rattle.whole.proofs.Columns.{count-same}
 use Rattle.shapes.specs.declared.limits.Limits.{Limits}
 use Rattle.board.specs.declared.Board.{Board}
 use Rattle.board.specs.Runs.{lit, total}
-use Rattle.board.specs.Boards.{Sound, live, listing, notListed, over, told, toldTo, listRefusal, listed, listedTo}
+use Rattle.board.specs.Boards.{Sound, live, listing, notListed, over, told, toldTo, listed, listedTo}
 use Rattle.board.proofs.Sound.{sound-iff}
 use Rattle.board_laws.specs.Histories.{Event, covered, boardAfter, runsAfter, spansAfter, runsIn}
 use Rattle.board_laws.proofs.Demand.{demand-3}

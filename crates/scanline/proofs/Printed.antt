@@ -2,11 +2,10 @@
 use mathlib.Core.Path.{_≡_, refl, sym, ap, _∙_}
 use mathlib.Core.Logic.{⊎-elim}
 use mathlib.Core.Bool.{Bool, true, false}
-use mathlib.Core.List.{List·Memᴰ}
 use Prim.Native.Nat.{ℕ, zero, suc}
 use native.Mathlib.Omega.{arith}
 use lib.IntN.{ℤ}
-use lib.Signed.{ltZ, leZ}
+use lib.Signed.{leZ}
 use Rattle.whole.specs.Number.{eqZ, lesser, greater}
 use Rattle.whole.proofs.Laws.{lesser-le, le-greater, lesser-one, greater-one}
 use Rattle.whole.proofs.Orders.{ordered, eqZ-true, eqZ-false}
@@ -14,12 +13,11 @@ use Rattle.shapes.specs.declared.Point.{Point}
 use Rattle.shapes.specs.declared.Line.{Line}
 use Rattle.shapes.specs.declared.Span.{Span}
 use Rattle.shapes.specs.Shape.{delta}
-use Rattle.bresenham.specs.Points.{linePoints}
 use Rattle.bresenham.specs.Paces.{valuesFrom, pointAt}
 use Rattle.bresenham.proofs.Laws.{longer}
 use Rattle.bresenham.proofs.Lines.{line-points, value-of, level}
 use Rattle.scanline.specs.Spans.{extended}
-use Rattle.scanline.specs.Meeting.{seen, seenAll, met}
+use Rattle.scanline.specs.Meeting.{seenAll, met}
 use Rattle.scanline.specs.Rows.{hasRow}
 use Rattle.scanline.specs.Printed.{inRows, skipWhileOff, takeWhileOn, extendAll, printedMet}
 use Rattle.scanline.proofs.Folds.{extends, seen-on, seen-off, seen-none}

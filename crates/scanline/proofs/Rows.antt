@@ -3,8 +3,8 @@ use mathlib.Core.Path.{_≡_, refl, sym, ap, _∙_}
 use mathlib.Core.Logic.{_↔_, ⊎-elim}
 use mathlib.Core.Bool.{Bool, true, false, cond}
 use mathlib.Core.List.{[], _∷_, List·Memᴰ, List·Memᴰ·cases-cons, List·Memᴰ·eq-of-singleton, Memᴰ·cast}
-use Prim.Native.Nat.{ℕ, _+_, _*_, _-_, _/_, _^_, _≤_, _<_}
-use native.Mathlib.Nat.{le-refl, mul-le-mul, mul-le-mul-right, div-mul-le-self, lt-div-mul-add, le-div-iff-mul-le, div-lt-iff-lt-mul, div-le-of-le-mul}
+use Prim.Native.Nat.{ℕ, _+_, _*_, _-_, _^_, _≤_, _<_}
+use native.Mathlib.Nat.{le-refl, mul-le-mul, mul-le-mul-right, le-div-iff-mul-le, div-le-of-le-mul}
 use native.Mathlib.Omega.{arith}
 use borrow.Author.Tests.{eqb-true, eqb-false, ltb-true, ltb-false}
 use lib.Dec.{eqb, ltb}

@@ -6,7 +6,7 @@ use mathlib.Core.Bool.{Bool, true, false, cond}
 use Prim.Native.Nat.{ℕ, zero, suc, _+_, _*_, _-_, _/_, _≤_, _<_, zero-le}
 use native.Mathlib.Nat.{suc-add, mul-le-mul-left, mul-le-mul-right, mul-lt-mul-of-pos-right, le-of-mul-le-mul-right, lt-of-mul-lt-mul-right, eq-of-mul-eq-mul-right, div-add-mod', mod-lt}
 use native.Mathlib.Omega.{arith}
-use borrow.Author.Tests.{le-leb, leb-true, leb-false, le-ltb}
+use borrow.Author.Tests.{le-leb, leb-true, le-ltb}
 use lib.IntN.{ℤ, pos, negsuc, natAbs, negℤ, _+ℤ_, _-ℤ_, _*ℤ_, negℤ-negℤ, *ℤ-comm}
 use lib.Signed.{ltZ, _≤ℤ_}
 use Rattle.whole.specs.Number.{Within, isWithin, lesser, greater}
@@ -21,10 +21,6 @@ use Rattle.whole.proofs.Ring.{con, neg, _⊖_, _⊗_, _≈_, since, rin
 pub true-within : (n : ℕ) (z : ℤ) → isWithin n z ≡ true → Within z n
 unfolding isWithin
 true-within n z e = record { bound = leb-true (natAbs z) n e }
-
-pub false-within : (n : ℕ) (z : ℤ) → isWithin n z ≡ false → n < natAbs z
-unfolding isWithin
-false-within n z e = leb-false (natAbs z) n e
 
 pub within-true : {n : ℕ} {z : ℤ} → Within z n → isWithin n z ≡ true
 unfolding isWithin

@@ -87,9 +87,6 @@ hold-quot {y} p q t = rw (p .is, q .is) (hold (within-quot y (p .small)) t)
 pub lt-hold : {a b m n : ℕ} {x y : ℤ} {t : Bool} → Hold a x m → Hold b y n → ltZ (toZ w64 a) (toZ w64 b) ≡ t → ltZ x y ≡ t
 lt-hold p q h = rw (p .is, q .is) at h
 
-pub le-hold : {a b m n : ℕ} {x y : ℤ} {t : Bool} → Hold a x m → Hold b y n → leZ (toZ w64 a) (toZ w64 b) ≡ t → leZ x y ≡ t
-le-hold p q h = rw (p .is, q .is) at h
-
 pub lt-back : {x y : ℤ} {t : Bool} → SFits w64 x → SFits w64 y → ltZ (toZ w64 (ofZ w64 x)) (toZ w64 (ofZ w64 y)) ≡ t → ltZ x y ≡ t
 lt-back f g h = rw (toZ-ofZ f, toZ-ofZ g) at h
 
@@ -99,9 +96,6 @@ le-back f g h = rw (toZ-ofZ f, toZ-ofZ g) at h
 -- equal bits hold equal numbers, and others do not
 pub eq-hold : {a b m n : ℕ} {x y : ℤ} → Hold a x m → Hold b y n → a ≡ b → x ≡ y
 eq-hold p q e = sym (p .is) ∙ (ap (toZ w64) e ∙ q .is)
-
-pub eq-back : {x y : ℤ} → SFits w64 x → SFits w64 y → ofZ w64 x ≡ ofZ w64 y → x ≡ y
-eq-back f g e = sym (toZ-ofZ f) ∙ (ap (toZ w64) e ∙ toZ-ofZ g)
 
 pub ne-back : {x y : ℤ} → (ofZ w64 x ≡ ofZ w64 y → ⊥) → x ≡ y → ⊥
 ne-back h e = h (ap (ofZ w64) e)

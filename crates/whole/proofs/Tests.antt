@@ -2,9 +2,10 @@
 use mathlib.Core.Path.{_≡_, refl, ap, _∙_}
 use mathlib.Core.Logic.{_↔_, _⊎_, inl, inr}
 use mathlib.Core.Bool.{Bool, true, false, _&&_, _||_, cond}
-use Prim.Native.Nat.{ℕ, _<_}
+use Prim.Native.Nat.{ℕ, _≤_, _<_}
 use native.Mathlib.Omega.{arith}
-use lib.Dec.{T, ltb, eqb, ltb→lt, lt→ltb, eqb→eq, eqb-refl}
+use borrow.Author.Tests.{leb-true, le-leb}
+use lib.Dec.{T, ltb, leb, eqb, ltb→lt, lt→ltb, eqb→eq, eqb-refl}
 use lib.IntN.{ℤ}
 use lib.Signed.{ltZ, leZ, _<ℤ_, _≤ℤ_}
 
@@ -50,6 +51,9 @@ lt-iff x y = (λ e. record { lt = passed (ltZ x y) e }, λ h. true-passed (ltZ x
 
 pub ltb-iff : (m n : ℕ) → (ltb m n ≡ true) ↔ (m < n)
 ltb-iff m n = (λ e. ltb→lt m n (passed (ltb m n) e), λ h. true-passed (ltb m n) (lt→ltb m n h))
+
+pub leb-iff : (m n : ℕ) → (leb m n ≡ true) ↔ (m ≤ n)
+leb-iff m n = (leb-true m n, le-leb m n)
 
 pub eqb-iff : (m n : ℕ) → (eqb m n ≡ true) ↔ (m ≡ n)
 eqb-iff m n = (λ e. eqb→eq m n (passed (eqb m n) e), λ h. rw h (true-passed (eqb n n) (eqb-refl n)))

@@ -1,5 +1,5 @@
 -- `route::rows` meets its contract. Assumes nothing.
-use mathlib.Core.Path.{_≡_, ap, _∙_}
+use mathlib.Core.Path.{_≡_, _∙_}
 use borrow.Author.Needs.{needs}
 use lib.Dec.{lit≤}
 use mir.Facts.{toZ-ofZ}

@@ -7,7 +7,6 @@ use borrow.Author.Tests.{le-leb, lt-leb}
 use denote.Ref.{now}
 use lib.Dec.{leb}
 use lib.ListN.{length}
-use Rattle.shapes.specs.Limits.{lineLimit}
 use Rattle.board.specs.Boards.{live, Sound, told, toldTo}
 use Rattle.board.proofs.Arrays.{length-mapped}
 use Rattle.board.proofs.Fronts.{live-long}

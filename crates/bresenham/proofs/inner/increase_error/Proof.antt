@@ -1,5 +1,5 @@
 use borrow.Author.Needs.{needs}
-use Rattle.whole.proofs.Machine.{Hold, hold, fits-add, fits-sub, hold-add, hold-sub}
+use Rattle.whole.proofs.Machine.{hold, fits-add, fits-sub, hold-add, hold-sub}
 use Rattle.bresenham.specs.Walk.{increased}
 use Rattle.bresenham.proofs.inner.increase_error.Statement.{statement}
 use Rattle.bresenham.proofs.inner.increase_error.Tie as tie

@@ -2,7 +2,6 @@
 -- of all. The measure is how many are left. Assumes nothing.
 use mathlib.Core.Path.{_≡_, sym, ap, _∙_}
 use mathlib.Core.Bool.{Bool, _&&_}
-use mathlib.Core.List.{List}
 use Prim.Native.Nat.{ℕ, _+_, _-_, _≤_, _<_}
 use native.Mathlib.Omega.{arith}
 use borrow.Author.Needs.{needs}
@@ -18,7 +17,6 @@ use Rattle.board.proofs.Arrays.{partly, fill-turn, fill-done}
 use Rattle.coordinates.specs.Points.{pointCount}
 use Rattle.route_joins.specs.Joins.{joinAt, joinCount, areJoinsNear}
 use Rattle.route_joins.proofs.Near.{join-inside}
-use Rattle.route.specs.declared.Joins.{Joins}
 use Rattle.route.specs.Joined.{noJoin, keptIn, joinsOf}
 use Rattle.whole.proofs.Lists.{list-drop, tested-more, tested-done}
 use Rattle.route.proofs.inner.joins_of.Statement.{statement}

@@ -14,12 +14,12 @@ use mir.Val.{toZ, ofZ}
 use mir.Facts.{toZ-ofZ}
 use Rattle.whole.specs.Places.{listFrom}
 use Rattle.whole.proofs.Places.{list-end, list-next}
-use Rattle.shapes.specs.Limits.{lineLimit, boardRuns}
+use Rattle.shapes.specs.Limits.{boardRuns}
 use Rattle.shapes.specs.Spans.{isEmpty}
 use Rattle.shapes.specs.declared.Span.{Span}
 use Rattle.board.specs.declared.Board.{Board}
 use Rattle.thick_segment.specs.declared.Segment.{Segment}
-use Rattle.thick_segment.specs.Segments.{SegmentNear, spanOn}
+use Rattle.thick_segment.specs.Segments.{spanOn}
 use Rattle.board.specs.Boards.{added, boardOf}
 use Rattle.route_joins.specs.Joins.{endPlace}
 use Rattle.route_joins.proofs.Near.{place-inside}

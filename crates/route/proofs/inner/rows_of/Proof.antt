@@ -4,18 +4,14 @@ use mathlib.Core.Path.{_≡_, sym, ap, _∙_}
 use Prim.Native.Nat.{ℕ, _+_, _-_, _≤_, _<_}
 use native.Mathlib.Omega.{arith}
 use borrow.Author.Needs.{needs}
-use lib.ListN.{getD}
 use Rattle.whole.specs.Places.{listFrom}
 use Rattle.whole.proofs.Places.{list-end, list-next}
-use Rattle.thick_segment.specs.declared.Rectangle.{Rectangle}
-use Rattle.thick_segment.specs.Segments.{boundingBox}
 use Rattle.route_joins.specs.Joins.{endPlace}
 use Rattle.route_joins.proofs.Near.{place-inside}
 use Rattle.route.specs.declared.Joins.{Joins}
-use Rattle.route.specs.declared.RowRange.{RowRange}
 use Rattle.route.specs.Joined.{segmentsIn, segmentIn}
 use Rattle.route.specs.Rows.{withBox, withBoxes, boxIn, rowsIn}
-use Rattle.route.proofs.Kept.{ends-in-array, segment-near}
+use Rattle.route.proofs.Kept.{ends-in-array}
 use Rattle.route.proofs.inner.rows_of.Statement.{statement}
 use Rattle.route.proofs.inner.rows_of.Tie as tie
 

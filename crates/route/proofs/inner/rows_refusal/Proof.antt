@@ -9,7 +9,7 @@ use mir.Facts.{toZ-ofZ}
 use Rattle.whole.specs.Places.{listFrom}
 use Rattle.whole.proofs.Places.{list-end, list-next}
 use Rattle.shapes.specs.Refusals.{orElse}
-use Rattle.route.specs.Rows.{boardOn, rowCount, rowAt, firstOf, roomAt, rowsRefusal}
+use Rattle.route.specs.Rows.{boardOn, rowCount, firstOf, roomAt, rowsRefusal}
 use Rattle.shapes.proofs.Choices.{or-free, or-stopped}
 use Rattle.route.proofs.Ranges.{count-small}
 use Rattle.route.proofs.inner.rows_refusal.Statement.{statement}

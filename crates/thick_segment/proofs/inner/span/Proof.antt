@@ -1,6 +1,5 @@
-use mathlib.Core.Path.{_≡_, sym, ap, _∙_}
+use mathlib.Core.Path.{_≡_, sym}
 use mathlib.Core.Logic.{inl, inr}
-use lib.ListN.{length, take}
 use borrow.Author.Needs.{needs}
 use mir.Syntax.{w64}
 use mir.Val.{toZ, ofZ}
@@ -8,7 +7,7 @@ use mir.Facts.{toZ-ofZ}
 use Rattle.whole.specs.Number.{lesser, greater}
 use Rattle.whole.proofs.Tests.{lt-iff}
 use Rattle.scanline.specs.Spans.{newSpan}
-use Rattle.thick_segment.specs.Segments.{topOf, bottomOf, drawn, perimeterOf, countOf, metRows, spanOn}
+use Rattle.thick_segment.specs.Segments.{topOf, bottomOf, drawn, perimeterOf, countOf, spanOn}
 use Rattle.thick_segment.proofs.Scanned.{met-rows, rows-near}
 use Rattle.thick_segment.proofs.Drawn.{drawn-most, drawn-near, span-beside}
 use Rattle.thick_segment.proofs.inner.span.Statement.{statement}
