@@ -1,7 +1,7 @@
 -- No list of runs lights the columns of an ascending one with fewer runs, in whatever order they stand, touching, overlapping or
 -- not: the runs that begin after the end of the first ascending one are fewer, and light what the others of it light. Assumes nothing.
 use mathlib.Core.Path.{_≡_, refl, sym, _∙_}
-use mathlib.Core.Bool.{Bool, true, false, cond, _||_, false≢true}
+use mathlib.Core.Bool.{Bool, true, false, cond, false≢true}
 use mathlib.Core.List.{List, [], _∷_}
 use Prim.Native.Nat.{ℕ, _≤_, _<_, zero-le}
 use native.Mathlib.Nat.{le-refl}
@@ -9,6 +9,7 @@ use native.Mathlib.Omega.{arith}
 use lib.IntN.{ℤ}
 use lib.ListN.{length}
 use lib.Signed.{ltZ, _≤ℤ_, _<ℤ_}
+use Rattle.whole.proofs.Tests.{or-left, or-right}
 use Rattle.whole.proofs.Orders.{ordered}
 use Rattle.whole.proofs.Columns.{between-yes, between-low, between-high}
 use Rattle.board.specs.declared.Run.{Run}
@@ -19,14 +20,6 @@ use Rattle.board_laws.proofs.Lit.{dark, first-lit, gap-dark}
 later : ℤ → List Run → List Run
 later e [] = []
 later e (q ∷ qs) = cond (ltZ e (q .start)) (q ∷ later e qs) (later e qs)
-
-or-left : (a b : Bool) → (a || b) ≡ false → a ≡ false
-or-left true b h = h
-or-left false b h = refl
-
-or-right : (a b : Bool) → (a || b) ≡ false → b ≡ false
-or-right true b h = absurd (false≢true (sym h))
-or-right false b h = h
 
 -- a run that begins at e or before, and does not light e, lights nothing after e
 ends-by : (q : Run) (e x : ℤ) → q .start ≤ℤ e → e <ℤ x → (t : Bool) → ltZ e (q .end) ≡ t → inRun q e ≡ false → inRun q x ≡ false

@@ -1,7 +1,7 @@
 -- What an offer answers: the union with the span where it needs at most 32 runs, 8 where it needs more, and 6 and 7 before that. Assumes
 -- nothing.
 use mathlib.Core.Path.{_≡_, refl, ap}
-use mathlib.Core.Bool.{Bool, true, false, cond, _&&_, _||_}
+use mathlib.Core.Bool.{Bool, true, false, _&&_, _||_}
 use mathlib.Core.List.{List}
 use mathlib.Core.Logic.{_↔_, _⊎_, inl, inr, ⊎-elim}
 use Prim.Native.Nat.{ℕ, _-_, _≤_, _<_}
@@ -17,7 +17,7 @@ use Rattle.whole.proofs.Columns.{between-yes, between-le, between-lt}
 use Rattle.whole.proofs.Linear.{opp, diff}
 use Rattle.whole.proofs.Orders.{ordered, eqZ-iff}
 use Rattle.whole.proofs.Spans.{within-low, within-high}
-use Rattle.whole.proofs.Tests.{and-iff, clash, else-false}
+use Rattle.whole.proofs.Tests.{and-iff, clash, else-false, either}
 use Rattle.shapes.specs.Limits.{boardRuns}
 use Rattle.shapes.specs.Spans.{Covers, isEmpty, SpanSound, isSpanSound}
 use Rattle.shapes.specs.declared.Span.{Span}
@@ -76,10 +76,6 @@ pub ascending-span : {k : ℕ} (s : Span) {rs : List Run} → SpanSound k s → 
 ascending-span s = ascending-by s (isEmpty s) refl
 
 -- ---- what holds of an answer holds if it does in each case
-
-pub either : {A : Type 0} (P : A → Type 0) (t : Bool) {x y : A} → (t ≡ true → P x) → (t ≡ false → P y) → P (cond t x y)
-either P true p q = p refl
-either P false p q = q refl
 
 module _ (b : Board) (s : Span) (P : Answer → Type 0) where
   abbrev union : List Run

@@ -11,13 +11,13 @@ use lib.IntN.{ℤ}
 use lib.ListN.{length}
 use Rattle.whole.specs.Number.{Within, isWithin}
 use Rattle.whole.proofs.Laws.{within-iff}
-use Rattle.whole.proofs.Tests.{Chosen, chosen, chosen-exactly, good-first, good-later, bad-first, never, leb-iff}
+use Rattle.whole.proofs.Tests.{Chosen, chosen, chosen-exactly, good-first, good-later, bad-first, never, leb-iff, either}
 use Rattle.shapes.specs.declared.Span.{Span}
 use Rattle.board.specs.declared.Board.{Board}
 use Rattle.board.specs.declared.Listed.{Listed}
 use Rattle.board.specs.Boards.{live, boardOf, Sound, isSound, answerOf, noBoard, notListed, begun, freshRefusal, offered, offerRefusal, cleared, clearRefusal, listing, told, over, toldTo, listed, listRefusal, listedTo}
 use Rattle.board.proofs.Sound.{sound-iff}
-use Rattle.board_laws.proofs.Offers.{either, added-either, offered-cases}
+use Rattle.board_laws.proofs.Offers.{added-either, offered-cases}
 
 -- ---- a fresh board
 

@@ -7,6 +7,7 @@ use Prim.Native.Nat.{ℕ, suc}
 use native.Mathlib.Nat.{le-refl}
 use lib.IntN.{ℤ, pos}
 use lib.Signed.{ltZ}
+use Rattle.whole.proofs.Tests.{or-swap}
 use Rattle.whole.proofs.Columns.{lt-lesser, greater-le, between-joined}
 use Rattle.whole.proofs.Laws.{lesser-le, le-greater}
 use Rattle.whole.proofs.Orders.{ordered}
@@ -16,16 +17,11 @@ use Rattle.board.proofs.Sound.{follows-from, ascending-from}
 
 -- ---- the columns
 
-swap : (a b c : Bool) → (a || (b || c)) ≡ (b || (a || c))
-swap true true c = refl
-swap true false c = refl
-swap false b c = refl
-
 lit-by : (r q : Run) (qs : List Run) (x : ℤ) (t u : Bool) → ltZ (r .end) (q .start) ≡ t → ltZ (q .end) (r .start) ≡ u
     → ((p : Run) → lit (withRun p qs) x ≡ (inRun p x || lit qs x)) → lit (withRun r (q ∷ qs)) x ≡ (inRun r x || lit (q ∷ qs) x)
 unfolding lit withRun joined
 lit-by r q qs x true u e f more = rw e
-lit-by r q qs x false true e f more = rw (e, f, more r) (swap (inRun q x) (inRun r x) (lit qs x))
+lit-by r q qs x false true e f more = rw (e, f, more r) (or-swap (inRun q x) (inRun r x) (lit qs x))
 lit-by r q qs x false false e f more =
     rw (e, f, more (joined r q), between-joined (r .start) (r .end) (q .start) (q .end) x e f) (or-assoc (inRun r x) (inRun q x) (lit qs x))
 

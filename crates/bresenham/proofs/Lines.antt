@@ -10,7 +10,7 @@ use borrow.Author.Tests.{ltb-true, ltb-false}
 use lib.Dec.{ltb}
 use lib.IntN.{ℤ, pos, negsuc, natAbs, _+ℤ_, _-ℤ_, _*ℤ_}
 use lib.Signed.{ltZ, _≤ℤ_}
-use Rattle.whole.proofs.Linear.{up, dn, linear, sum, opp, diff, neg-abs, pos-abs, le-or-lt}
+use Rattle.whole.proofs.Linear.{linear, sum, opp, diff, neg-abs, pos-abs, le-or-lt, below-parts}
 use Rattle.whole.proofs.Steps.{parts}
 use Rattle.whole.proofs.Laws.{lesser-le, le-greater, lesser-one, greater-one}
 use Rattle.whole.proofs.Ring.{con, _⊕_, _⊖_, _⊗_, _≈_, ring}
@@ -58,10 +58,6 @@ between-by x e k false f h =
 
 pub steps-between : (x e : ℤ) {k : ℕ} → k ≤ natAbs (e -ℤ x) → Between x e (stepsFrom x (e -ℤ x) k)
 steps-between x e {k} h = between-by x e k (ltZ (e -ℤ x) (pos 0)) refl h
-
-below-parts : (w : ℤ) → w ≤ℤ pos 0 → (up w ≡ 0) × (dn w ≡ natAbs w)
-below-parts (pos n) h = omega linear
-below-parts (negsuc n) h = (refl, refl)
 
 pub record Steps (x e z : ℤ) : Type 0 where
   pub is : z ≡ stepsFrom x (e -ℤ x) (natAbs (z -ℤ x))

@@ -8,7 +8,7 @@ use native.Mathlib.Nat.{le-refl, zero-add, add-zero, mul-le-mul-right, div-zero,
 use native.Mathlib.Omega.{arith}
 use lib.IntN.{ℤ, pos, negℤ, _+ℤ_, _-ℤ_}
 use lib.Signed.{ltZ}
-use Rattle.whole.proofs.Linear.{linear, sum, diff, le-or-lt}
+use Rattle.whole.proofs.Linear.{linear, diff, le-or-lt, pos-suc}
 use Rattle.whole.proofs.Ring.{con, neg, _⊕_, _⊖_, _⊗_, _≈_, ring}
 use Rattle.shapes.specs.declared.Point.{Point}
 use Rattle.shapes.specs.Shape.{plus}
@@ -63,20 +63,17 @@ turns-within {a} {c} {n} less h =
 pub within-turns : {a c n t : ℕ} → c ≤ a → n ≤ a → t ≤ c → Paced a c n t → turnsAt a c n ≡ t
 within-turns {a} {c} {n} {t} less h most w = ⊎-elim (λ none. idle c h none ∙ omega arith) (λ some. paced-turns some w) (le-or-lt a 0)
 
--- ---- the walk goes from one such place to the next
+-- ---- the walk goes from pos-suc such place to the next
 
--- no move, a minor one more, a major one more
+-- no move, a minor pos-suc more, a major pos-suc more
 still : (x M m : ℤ) → moved x M m 0 0 ≡ x
 still x M m = ring 3 (λ x M m. x ⊕ con (pos 0) ⊗ M ⊕ con (pos 0) ⊗ m ≈ x) refl x M m
 
-one : (n : ℕ) → pos (suc n) ≡ pos n +ℤ pos 1
-one n = omega (linear, sum (pos n) (pos 1))
-
 minor-more : (x M m : ℤ) (n t : ℕ) → moved x M m n t +ℤ m ≡ moved x M m n (suc t)
-minor-more x M m n t = rw (one t) (ring 5 (λ x M m n t. x ⊕ n ⊗ M ⊕ t ⊗ m ⊕ m ≈ x ⊕ n ⊗ M ⊕ (t ⊕ con (pos 1)) ⊗ m) refl x M m (pos n) (pos t))
+minor-more x M m n t = rw (pos-suc t) (ring 5 (λ x M m n t. x ⊕ n ⊗ M ⊕ t ⊗ m ⊕ m ≈ x ⊕ n ⊗ M ⊕ (t ⊕ con (pos 1)) ⊗ m) refl x M m (pos n) (pos t))
 
 major-more : (x M m : ℤ) (n t : ℕ) → moved x M m n t +ℤ M ≡ moved x M m (suc n) t
-major-more x M m n t = rw (one n) (ring 5 (λ x M m n t. x ⊕ n ⊗ M ⊕ t ⊗ m ⊕ M ≈ x ⊕ (n ⊕ con (pos 1)) ⊗ M ⊕ t ⊗ m) refl x M m (pos n) (pos t))
+major-more x M m n t = rw (pos-suc n) (ring 5 (λ x M m n t. x ⊕ n ⊗ M ⊕ t ⊗ m ⊕ M ≈ x ⊕ (n ⊕ con (pos 1)) ⊗ M ⊕ t ⊗ m) refl x M m (pos n) (pos t))
 
 module _ (p : Parameters) (q : Point) where
   abbrev M : Point
@@ -107,7 +104,7 @@ module _ (M m : Point) (a c : ℕ) (q : Point) (some : 0 < a) (less : c ≤ a) w
   abbrev p : Parameters
   p = along M m (pos a) (pos c)
 
-  -- a place before its minor move, where one is due
+  -- a place before its minor move, where pos-suc is due
   record Ready (n t : ℕ) : Type 0 where
     below : t * (2 * a) ≤ n * (2 * c) + (a - 1)
     above : n * (2 * c) ≤ t * (2 * a) + 3 * a

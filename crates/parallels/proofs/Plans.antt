@@ -9,7 +9,7 @@ use lib.ListN.{length}
 use lib.IntN.{ℤ, pos, natAbs, negℤ, _+ℤ_, _-ℤ_, _*ℤ_}
 use lib.Signed.{quotZ, _≤ℤ_}
 use Rattle.whole.specs.Number.{eqZ}
-use Rattle.whole.proofs.Linear.{linear, sum, diff, opp, times, abs-parts, le-or-lt}
+use Rattle.whole.proofs.Linear.{linear, sum, diff, opp, times, abs-parts, le-or-lt, there-and-off}
 use Rattle.whole.proofs.Bounds.{abs-neg, abs-mul}
 use Rattle.whole.proofs.Orders.{eqZ-refl, ordered}
 use Rattle.whole.proofs.Steps.{parts, square-is, far-none, half-natural, squares-most}
@@ -134,9 +134,6 @@ module _ (w : ℕ) (d : Point) (near : Near deltaLimit d) (some : 1 ≤ natAbs (
       }
 
 -- ---- the plan of a line
-
-there-and-off : (a d : ℤ) → a +ℤ d -ℤ a ≡ d
-there-and-off a d = omega (linear, sum a d, diff (a +ℤ d) a)
 
 -- W1's perpendicular, which the Rust takes, has the delta that the plan takes
 pub perpendicular-delta : (l : Line) → delta (perpendicular l) ≡ turnedBack (delta l)

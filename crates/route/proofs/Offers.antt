@@ -2,7 +2,7 @@
 -- them, and 8 is given exactly when after some span the union needs more than 32 runs. Assumes nothing.
 use mathlib.Core.Path.{_≡_, refl, sym, ap, subst, _∙_}
 use mathlib.Core.Logic.{_↔_, _⊎_, inl, inr, ⊎-elim}
-use mathlib.Core.Bool.{Bool, true, false, cond, _||_}
+use mathlib.Core.Bool.{true, cond, _||_}
 use mathlib.Core.List.{List, [], _∷_, _++_, append-assoc}
 use Prim.Native.Nat.{ℕ, zero, suc, _+_, _≤_, _<_}
 use native.Mathlib.Omega.{arith}
@@ -10,6 +10,7 @@ use borrow.Author.Tests.{eq-eqb, ne-eqb}
 use lib.Dec.{eqb, lit≤}
 use lib.IntN.{ℤ}
 use lib.ListN.{length}
+use Rattle.whole.proofs.Tests.{or-turned, or-false}
 use Rattle.whole.specs.Number.{Within}
 use Rattle.whole.specs.Columns.{between}
 use Rattle.whole.specs.Places.{listFrom}
@@ -112,16 +113,6 @@ module _ {k : ℕ} {row : ℤ} where
       let here : i + 0 ≡ i = omega arith in
       and-span (rw here at (each 0 (omega arith))) (fit-list at left (suc i) (λ d h. let on : suc i + d ≡ i + suc d = omega arith in rw on (each (suc d) (omega arith))))
 
-or-turned : (a b c : Bool) → (a || (b || c)) ≡ ((b || a) || c)
-or-turned true true c = refl
-or-turned true false c = refl
-or-turned false true c = refl
-or-turned false false c = refl
-
-or-none : (t : Bool) → (t || false) ≡ t
-or-none true = refl
-or-none false = refl
-
 module _ (k : ℕ) (row : ℤ) where
   -- a board of the row that may be offered to
   record Fine (b : Board) : Type 0 where
@@ -189,7 +180,7 @@ module _ (k : ℕ) (row : ℤ) where
 
       pub covered-is : (x : ℤ) → covered (spansAfter k row (offering us)) x ≡ covered us x
       unfolding covered
-      covered-is x = ap (λ b. covered (accepted k b [] (offering us)) x) begun-is ∙ all-follow .covered-is x ∙ or-none (covered us x)
+      covered-is x = ap (λ b. covered (accepted k b [] (offering us)) x) begun-is ∙ all-follow .covered-is x ∙ or-false (covered us x)
 
       -- one more span has no room exactly where the union needs more than 32 runs
       module _ (s : Span) (p : Proper k row s) where

@@ -9,8 +9,9 @@ use native.Mathlib.Numerals.{add-one}
 use native.Mathlib.Omega.{arith}
 use borrow.Author.Tests.{lt-ltb, le-ltb, eq-eqb, ne-eqb}
 use lib.Dec.{eqb, ltb}
-use lib.IntN.{ℤ}
+use lib.IntN.{ℤ, pos}
 use Rattle.whole.proofs.Tests.{else-false, ltb-iff, eqb-iff, never, good-first, good-later}
+use Rattle.shapes.specs.declared.Point.{Point}
 use Rattle.shapes.specs.Refusals.{cornerRefused}
 use Rattle.thick_segment.specs.declared.Segment.{Segment}
 use Rattle.coordinates.specs.Refusal.{routeRefusal, Accepted}
@@ -22,7 +23,7 @@ use Rattle.thick_segment.specs.Segments.{SegmentNear, isSegmentNear}
 use Rattle.thick_segment.proofs.Refused.{segment-near-iff}
 use Rattle.line_join.specs.declared.Join.{Join}
 use Rattle.line_join.specs.declared.Joined.the-variants.{Made}
-use Rattle.line_join.specs.Answers.{joinValues}
+use Rattle.line_join.specs.Answers.{JoinValues, joinValues}
 use Rattle.line_join.proofs.Answers.{join-values-tell}
 use Rattle.route_joins.specs.declared.Step.{Step}
 use Rattle.route_joins.specs.declared.Step.the-variants.{Drawn, End, Refused}
@@ -48,6 +49,17 @@ module _ (k refusal count : ℕ) (segment : ℕ → Segment) (place : ℕ) where
       pub step-corner : isSegmentNear k (segment place) ≡ false → stepAt k refusal count segment place ≡ stepValues (Refused cornerRefused)
       unfolding stepAt checked
       step-corner e = rw (eq-eqb refusal 0 none, lt-ltb place count more, e)
+
+-- refused, every other number is 0: of both joins the kind and the eight coordinates too
+abbrev origin : Point
+origin = record { x = pos 0; y = pos 0 }
+
+abbrev zeros : JoinValues
+zeros = record { refusal = 0; kind = 0; ending = record { left = origin; right = origin }; starting = record { left = origin; right = origin } }
+
+pub refused-zeros : (n : ℕ) → stepValues (Refused n) ≡ record { refusal = n; found = 0; start = zeros; end = zeros }
+unfolding stepValues
+refused-zeros n = refl
 
 -- where an answer leaves the walk: where no segment is answered, it stays
 pub place-kept : (v : StepValues) (place : ℕ) → v .found ≢ 1 → placeFrom v place ≡ place

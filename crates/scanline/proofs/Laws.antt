@@ -10,7 +10,7 @@ use Rattle.whole.specs.Number.{Within}
 use Rattle.whole.proofs.Linear.{sum, diff}
 use Rattle.whole.proofs.Laws.{lesser-le, le-greater}
 use Rattle.whole.proofs.Orders.{ordered}
-use Rattle.whole.proofs.Tests.{clash, else-true, else-false, and-left, and-right}
+use Rattle.whole.proofs.Tests.{clash, else-true, else-false, and-left, and-right, or-second}
 use Rattle.whole.proofs.Spans.{within-low, within-high, within-of, lesser-other, greater-other}
 use Rattle.shapes.specs.declared.Point.{Point}
 use Rattle.shapes.specs.declared.Line.{Line}
@@ -124,10 +124,6 @@ touches-exactly s o = apart-by s o (leZ (o .start) (s .end)) (leZ (s .start) (o 
 range-no : (a b x : ℤ) → (leZ a x ≡ true → leZ x b ≡ true → ⊥) → inRange a b x ≡ false
 range-no a b x h = else-false (inRange a b x) (λ e. h (and-left (leZ a x) (leZ x b) e) (and-right (leZ a x) (leZ x b) e))
 
-or-right : (a b : Bool) → b ≡ true → (a || b) ≡ true
-or-right true b e = refl
-or-right false b e = e
-
 no-range : (s o : Span) → isEmpty s ≡ false → isEmpty o ≡ false → Apart s o → printedTouches s o ≡ false
 unfolding printedTouches isEmpty
 no-range s o a b apart =
@@ -149,7 +145,7 @@ printed-by s o true true false e f g a b =
     let here : leZ (o .start -ℤ pos 1) (s .start) ≡ true = omega (ordered, diff (s .start) (pos 1), diff (o .start) (pos 1)) in
     let mine = inRange (s .start -ℤ pos 1) (s .end) (o .start) || inRange (s .start -ℤ pos 1) (s .end) (o .end -ℤ pos 1) in
     let theirs = inRange (o .start -ℤ pos 1) (o .end) (s .start) || inRange (o .start -ℤ pos 1) (o .end) (s .end -ℤ pos 1) in
-    or-right mine theirs (simp (here, f)) ∙ sym (simp (e, f))
+    or-second mine theirs (simp (here, f)) ∙ sym (simp (e, f))
 printed-by s o true false v e f g a b = no-range s o a b (inr (omega ordered)) ∙ sym (simp (e, f))
 printed-by s o false u v e f g a b = no-range s o a b (inl (omega ordered)) ∙ sym (simp e)
 

@@ -135,3 +135,15 @@ not-negative {z = negsuc n} h = absurd (h .le)
 pub none-below : {z : ℤ} → pos 0 ≤ℤ z → dn z ≡ 0
 none-below {z = pos n} h = refl
 none-below {z = negsuc n} h = absurd (h .le)
+
+pub below-parts : (w : ℤ) → w ≤ℤ pos 0 → (up w ≡ 0) × (dn w ≡ natAbs w)
+below-parts (pos n) h = omega linear
+below-parts (negsuc n) h = (refl, refl)
+
+-- ---- sums
+
+pub pos-suc : (n : ℕ) → pos (suc n) ≡ pos n +ℤ pos 1
+pos-suc n = omega (linear, sum (pos n) (pos 1))
+
+pub there-and-off : (a d : ℤ) → a +ℤ d -ℤ a ≡ d
+there-and-off a d = omega (linear, sum a d, diff (a +ℤ d) a)

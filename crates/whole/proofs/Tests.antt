@@ -28,6 +28,37 @@ or-iff false b p q = (λ e. inr (q .0 e), λ h. or-right p q h)
     or-right p q (inl x) = cc (p .1 x)
     or-right p q (inr y) = q .1 y
 
+pub or-left : (a b : Bool) → (a || b) ≡ false → a ≡ false
+or-left true b h = h
+or-left false b h = refl
+
+pub or-right : (a b : Bool) → (a || b) ≡ false → b ≡ false
+or-right true b h = cc
+or-right false b h = h
+
+pub or-second : (a b : Bool) → b ≡ true → (a || b) ≡ true
+or-second true b e = refl
+or-second false b e = e
+
+pub or-false : (t : Bool) → (t || false) ≡ t
+or-false true = refl
+or-false false = refl
+
+pub or-swap : (a b c : Bool) → (a || (b || c)) ≡ (b || (a || c))
+or-swap true true c = refl
+or-swap true false c = refl
+or-swap false b c = refl
+
+pub or-turned : (a b c : Bool) → (a || (b || c)) ≡ ((b || a) || c)
+or-turned true true c = refl
+or-turned true false c = refl
+or-turned false true c = refl
+or-turned false false c = refl
+
+pub either : {A : Type 0} (P : A → Type 0) (t : Bool) {x y : A} → (t ≡ true → P x) → (t ≡ false → P y) → P (cond t x y)
+either P true p q = p refl
+either P false p q = q refl
+
 pub passed : (t : Bool) → t ≡ true → T t
 passed t e = rw e tt
 
