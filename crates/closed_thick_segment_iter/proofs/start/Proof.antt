@@ -1,5 +1,5 @@
 -- `closed_thick_segment_iter::start` meets its contract. Assumes nothing.
-use mathlib.Core.Path.{_≡_}
+use mathlib.Core.Path.{_≡_, sym}
 use mathlib.Core.Bool.{true}
 use borrow.Author.Needs.{needs}
 use borrow.Author.Tests.{eq-eqb, ne-eqb}
@@ -11,7 +11,7 @@ use Rattle.closed_thick_segment_iter.proofs.start.Statement.{statement}
 use Rattle.closed_thick_segment_iter.proofs.start.Tie as tie
 
 told : (c : tie.After-refusal) → routeRefusal pointLimit true (c .before .args .coordinates .now) (c .before .args .width) ≡ c .refusal .result
-told c = cc (toZ-ofZ (c .before .fits .width))
+told c = sym (rw (toZ-ofZ (c .before .fits .width)) at (c .refusal .ensures))
 
 returns : tie.Need-returns
 unfolding closedStart

@@ -5,7 +5,7 @@ use Rattle.linear_equation.proofs.are_near.Tie as tie
 
 returns : tie.Need-returns
 unfolding areInside
-returns c = cc
+returns c = rw (c .both .ensures, c .before .before .is-line-near .ensures, c .before .is-near .ensures)
 
 pub are-near-spec : {M : Type 1} → statement M
 are-near-spec =

@@ -17,7 +17,7 @@ held c = toZ-ofZ {w = w64} {z = c .before .before .before .before .args .walk .w
 
 answered : (c : tie.After-step-at) → let a = c .before .before .before .before .args in stepValues (c .step-at .result .step) ≡ polylineStep panel (a .coordinates .now) (a .walk)
 unfolding polylineStep
-answered c = cc (c .step-at .ensures .0, held c)
+answered c = rw (held c, c .before .panel .ensures) at (c .step-at .ensures .0)
 
 step-at-requires : tie.Need-step-at-requires
 step-at-requires c κs = rw (c .panel .ensures) (record { point-room = lit≤ tt; corner-room = lit≤ tt })

@@ -13,7 +13,7 @@ returns : tie.Need-returns
 unfolding follows
 returns c =
     let s = c .before .before .before .before .before .before .before .before in
-    cc (toZ-ofZ (s .fits .last), toZ-ofZ {w = w64} {z = s .args .run .start} (search needs), toZ-ofZ {w = w64} {z = s .args .run .end} (search needs), past-is (s .fits .limit))
+    rw (c .both2 .ensures, c .before .both .ensures, toZ-ofZ (s .fits .last), toZ-ofZ {w = w64} {z = s .args .run .start} (search needs), toZ-ofZ {w = w64} {z = s .args .run .end} (search needs), past-is (s .fits .limit))
 
 pub follows-spec : {M : Type 1} → statement M
 follows-spec =

@@ -1,5 +1,5 @@
 -- What is left of the answer is what the grown run makes of the runs that are left. The measure is their number.
-use mathlib.Core.Path.{_≡_, _∙_}
+use mathlib.Core.Path.{_≡_, sym, _∙_}
 use mathlib.Core.List.{_∷_}
 use Prim.Native.Nat.{_+_, _-_, _≤_}
 use native.Mathlib.Omega.{arith}
@@ -40,10 +40,10 @@ module _ (c : tie.In-loop Inv-loop μ-loop) where
   next = live-more (c .before .before .args .t1) (c .before .loop .next) (omega arith) (omega (arith, long (c .before .before)))
 
 after : (c : tie.After-ends-before Inv-loop μ-loop) → let t = c .before .before .before in ltZ (grown t .end) (other t .start) ≡ c .ends-before .result
-after c = let t = c .before .before .before in cc (toZ-ofZ {w = w64} {z = other t .start} (search needs))
+after c = let t = c .before .before .before in rw (← toZ-ofZ {w = w64} {z = other t .start} (search needs)) (sym (c .ends-before .ensures))
 
 before : (c : tie.After-ends-before2 Inv-loop μ-loop) → let t = c .before .before .before .before .before .before in ltZ (other t .end) (grown t .start) ≡ c .ends-before2 .result
-before c = let t = c .before .before .before .before .before .before in cc (toZ-ofZ {w = w64} {z = grown t .start} (search needs))
+before c = let t = c .before .before .before .before .before .before in rw (← toZ-ofZ {w = w64} {z = grown t .start} (search needs)) (sym (c .ends-before2 .ensures))
 
 -- the front where the loop is left
 done : (s : tie.At-loop Inv-loop μ-loop) → let b = s .before .args .t1 in let rest = drop (s .loop .next) (live b) in

@@ -1,4 +1,4 @@
-use mathlib.Core.Path.{_≡_}
+use mathlib.Core.Path.{_≡_, ap, _∙_}
 use mathlib.Core.List.{List}
 use Prim.Native.Nat.{_+_, _-_, _≤_}
 use native.Mathlib.Omega.{arith}
@@ -10,7 +10,7 @@ use Rattle.board.specs.declared.Run.{Run}
 use Rattle.board.specs.declared.Board.{Board}
 use Rattle.board.specs.declared.inner.Front.{Front}
 use Rattle.board.specs.Runs.{withRun}
-use Rattle.board.specs.Boards.{live, spanRun, added}
+use Rattle.board.specs.Boards.{live, spanRun, added, answerOf, boardOf}
 use Rattle.board.specs.Fronts.{Gathered, wholeOf}
 use Rattle.board.proofs.Arrays.{length-mapped}
 use Rattle.board.proofs.Fronts.{live-long, filling-length, filling-all}
@@ -63,7 +63,7 @@ returns-2 c =
     let d = c .before .before .before .before .before in
     let e = d .before .before in
     let few : length (union d) ≤ boardRuns = omega (arith, size d, c .before .if2 .taken) in
-    rw (← e .before .is-empty .ensures, e .if1 .left, le-leb (length (union d)) boardRuns few) (cc (whole-is d))
+    rw (← e .before .is-empty .ensures, e .if1 .left, le-leb (length (union d)) boardRuns few) (ap (answerOf 0) (c .filled .ensures ∙ ap (boardOf (b d .row)) (whole-is d)))
 
 returns-3 : tie.Need-returns-3
 unfolding added

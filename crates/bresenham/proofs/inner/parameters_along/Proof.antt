@@ -50,7 +50,7 @@ returns : tie.Need-returns
 unfolding parametersAlong
 returns c =
     let m = c .before .before in
-    simp (lt-hold (width m) (height m) (c .before .if1 .taken)) (cc (across m, down m, width m .is, height m .is))
+    simp (lt-hold (width m) (height m) (c .before .if1 .taken)) (rw (c .walk-along .ensures, across m, down m, width m .is, height m .is))
 
 walk-along-requires-2 : tie.Need-walk-along-requires-2
 walk-along-requires-2 c κs = let h = height (c .before) in let w = width (c .before) in (rw (w .is) (w .small), rw (h .is) (h .small))
@@ -59,7 +59,7 @@ returns-2 : tie.Need-returns-2
 unfolding parametersAlong
 returns-2 c =
     let m = c .before .before in
-    simp (lt-hold (width m) (height m) (c .before .if1 .left)) (cc (across m, down m, width m .is, height m .is))
+    simp (lt-hold (width m) (height m) (c .before .if1 .left)) (rw (c .walk-along2 .ensures, across m, down m, width m .is, height m .is))
 
 pub parameters-along-spec : {M : Type 1} → statement M
 parameters-along-spec =

@@ -39,7 +39,7 @@ returns : tie.Need-returns
 unfolding nearlyColinear
 returns c =
     let d = determinant (c .before .before .before .before .before) in
-    cc (hold-mul d d tt .is, toZ-ofZ {w = w64} {z = c .magnitude .result} (search needs), dot (c .before) .is)
+    rw (hold-mul d d tt .is, toZ-ofZ {w = w64} {z = c .magnitude .result} (search needs), c .magnitude .ensures, dot (c .before) .is)
 
 pub nearly-colinear-spec : {M : Type 1} → statement M
 nearly-colinear-spec =

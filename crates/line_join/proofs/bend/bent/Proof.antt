@@ -16,7 +16,7 @@ left c = sym (c .before .before .crossed .ensures) ∙ c .left .given .1
 
 -- where the right edges cross
 right : (c : tie.After-right) → meet (c .before .before .before .before .before .before .before .args .second .right) (c .before .before .before .before .before .before .before .args .first .right) ≡ At (c .right .given .0 .0) (c .right .given .0 .1 .0)
-right c = cc (c .right .given .1)
+right c = sym (c .before .before .crossed2 .ensures) ∙ c .right .given .1
 
 returns : tie.Need-returns
 unfolding bentOf

@@ -76,7 +76,7 @@ join-on-requires c κs =
 
 near : (c : tie.After-both Inv-loop μ-loop) → let l = c .before .before .before in
     c .both .result ≡ (l .before .loop .near && test (counted l) (l .before .loop .i))
-near c = cc
+near c = rw (c .both .ensures, c .before .is-join-near .ensures, c .before .before .join-on .ensures)
 
 loop-again : tie.Need-loop-again Inv-loop μ-loop
 loop-again c =

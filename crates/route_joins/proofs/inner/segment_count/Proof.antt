@@ -6,7 +6,7 @@ use Rattle.route_joins.proofs.inner.segment_count.Tie as tie
 
 returns : tie.Need-returns
 unfolding segmentCount
-returns c = cc
+returns c = rw (c .before .point-count .ensures) at (c .segments-of .ensures)
 
 pub segment-count-spec : {M : Type 1} → statement M
 segment-count-spec = tie.close (tie.spec (λ c κs. search needs) (λ c κs. search needs) returns)

@@ -74,7 +74,7 @@ returns-3 c =
     let t = n .before .before in
     let e = t .before .before in
     let s = e .before .before in
-    (cc (step-corner (corner s) (refused s) (count s) (segment s) (s .args .place) (none e) (inside t) (near n ∙ c .if3 .left)), refl)
+    (sym (step-corner (corner s) (refused s) (count s) (segment s) (s .args .place) (none e) (inside t) (near n ∙ c .if3 .left)), refl)
 
 returns-4 : tie.Need-returns-4
 unfolding routeStep placeFrom stepValues

@@ -1,3 +1,6 @@
+use mathlib.Core.Bool.{true}
+use mathlib.Core.Path.{sym, ap, _∙_}
+use Rattle.scanline.specs.Spans.{newSpan}
 use borrow.Author.Needs.{needs}
 use mir.Syntax.{w64}
 use mir.Facts.{toZ-ofZ}
@@ -11,7 +14,7 @@ returns c = cc (take-none (c .before .before .before .args .span) (cc))
 returns-2 : tie.Need-returns-2
 returns-2 c =
     let s = c .before .before .before .before .args .span in
-    cc (take-some s (cc), toZ-ofZ {w = w64} {z = s .row} (search needs))
+    ap (λ r. record { taken = true; span = s; rest = r }) (c .new-span2 .ensures ∙ ap newSpan (toZ-ofZ {w = w64} {z = s .row} (search needs))) ∙ sym (take-some s (cc))
 
 pub try-take-spec : {M : Type 1} → statement M
 try-take-spec = tie.close (tie.spec (λ c κs. search needs) (λ c κs. search needs) returns (λ c κs. search needs) returns-2)

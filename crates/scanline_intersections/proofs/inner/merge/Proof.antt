@@ -1,9 +1,9 @@
 -- `scanline_intersections::inner::merge` meets its contract: what is left to merge gives the answer. The measure is how many segments are
 -- left. Assumes nothing.
 use mathlib.Core.Path.{_≡_, refl, sym, ap, ap₂, _∙_}
-use mathlib.Core.Bool.{false}
+use mathlib.Core.Bool.{true, false}
 use mathlib.Core.List.{List}
-use Prim.Native.Nat.{_-_, _≤_, _<_}
+use Prim.Native.Nat.{_+_, _-_, _≤_, _<_}
 use native.Mathlib.Omega.{arith}
 use borrow.Author.Needs.{needs}
 use lib.IntN.{ℤ}
@@ -17,7 +17,7 @@ use Rattle.thick_segment.specs.Segments.{SegmentNear}
 use Rattle.coordinates.specs.Points.{pointCount}
 use Rattle.route_joins.specs.Joins.{openCount, areJoinsNear, segmentCount, segmentsOf}
 use Rattle.scanline_intersections.specs.Segments.{spanAt, spansFrom}
-use Rattle.scanline_intersections.specs.Merging.{mergedNext, nextMerged}
+use Rattle.scanline_intersections.specs.Merging.{mergedNext, nextMerged, walkOf}
 use Rattle.scanline_intersections.proofs.Spans.{segment-near, merged-more, merged-stop, merged-end}
 use Rattle.scanline_intersections.proofs.inner.merge.Statement.{statement}
 use Rattle.scanline_intersections.proofs.inner.merge.Tie as tie
@@ -98,7 +98,7 @@ returns c =
     let e = c .before in
     let l = e .before .before .before .before in
     let stop = merged-stop (list l) (width l) (row l) (l .loop .place) (l .loop .gathered) (omega (arith, l .loop .inv .0)) (sym (ap (λ j. j .joined) (tried-is e)) ∙ c .if1 .left) in
-    cc (other-is (e .before), stop, left l)
+    ap (λ o. record { refusal = 0; found = true; span = l .loop .gathered; walk = walkOf (l .loop .place + 1) (width l) o }) (other-is (e .before)) ∙ sym stop ∙ left l
 
 returns-2 : tie.Need-returns-2 Inv-loop μ-loop
 returns-2 c =
