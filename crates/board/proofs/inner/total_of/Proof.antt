@@ -90,7 +90,7 @@ total-of-spec =
     (tie.spec
     Inv-loop
     μ-loop
-    (λ c. (search needs, (record { bound = search needs }, simp (+ℤ-idl (total (live (c .args .t1)))))))
+    (λ c. (search needs, (record { bound = search needs }, +ℤ-idl (total (live (c .args .t1))))))
     (λ c. omega arith)
     (λ c. omega arith)
     (λ c. let t = c .before .before .before in fits-sub (hold (inside t .end-near) tt) (hold (inside t .start-near) tt) tt)

@@ -1,5 +1,6 @@
 -- `scanline::inner::meet` meets its contract: on a row of the line it takes in the first and the last column, and off them none. Assumes nothing.
-use mathlib.Core.Path.{_≡_, sym, ap, _∙_}
+use mathlib.Core.Path.{_≡_, sym, _∙_}
+use Prim.Native.Nat.{_^_, _≤_}
 use native.Mathlib.Omega.{arith}
 use borrow.Author.Needs.{needs}
 use lib.Dec.{lit≤}
@@ -12,7 +13,6 @@ use Rattle.shapes.specs.Limits.{lineLimit}
 use Rattle.shapes.specs.declared.Line.{Line}
 use Rattle.shapes.specs.declared.Span.{Span}
 use Rattle.bresenham.specs.Paces.{Between}
-use Rattle.scanline.specs.declared.quotients.Ends.{Ends}
 use Rattle.scanline.specs.Rows.{hasRow, endsOn, firstOn, lastOn}
 use Rattle.scanline.proofs.Rows.{row-exactly, counts-small, at-near, first-at, last-at, met-row}
 use Rattle.scanline.proofs.Laws.{met-off}
@@ -41,30 +41,28 @@ ends-on-requires c κs = (c .before .before .before .pre, rw (row-is (c .before)
 ends : (c : tie.After-ends-on) → c .ends-on .result ≡ endsOn (line (c .before .before)) (span (c .before .before) .row)
 ends c = cc (row-is (c .before .before))
 
+-- both counts of columns are small
+small : (c : tie.After-ends-on) → (c .ends-on .result .first ≤ 2 ^ 15) × (c .ends-on .result .last ≤ 2 ^ 15)
+small c = let s = c .before .before in rw (ends c) (counts-small (line s) (span s .row) (on (c .before)) (s .before .before .pre))
+
 column-at-requires : tie.Need-column-at-requires
-column-at-requires c κs =
-    let s = c .before .before in
-    let near = s .before .before .pre in
-    (near, omega (arith, ap (λ (e : Ends). e .first) (ends c), counts-small (line s) (span s .row) (on (c .before)) near))
+column-at-requires c κs = (c .before .before .before .before .pre, omega (arith, small c))
 
 column-at-requires-2 : tie.Need-column-at-requires-2
-column-at-requires-2 c κs =
-    let s = c .before .before .before in
-    let near = s .before .before .pre in
-    (near, omega (arith, ap (λ (e : Ends). e .last) (ends (c .before)), counts-small (line s) (span s .row) (on (c .before .before)) near))
+column-at-requires-2 c κs = (c .before .before .before .before .before .pre, omega (arith, small (c .before)))
 
 -- the two columns, in their bits
 first : (c : tie.After-column-at) → Hold (ofZ w64 (c .column-at .result)) (firstOn (line (c .before .before .before)) (span (c .before .before .before) .row)) lineLimit
 first c =
     let s = c .before .before .before in
     let o = on (c .before .before) in
-    hold-as {r = c .column-at .result} (cc (ends (c .before))) (at-near (line s) (span s .row) o (s .before .before .pre) (first-at (line s) (span s .row) o)) tt
+    hold-as {r = c .column-at .result} (rw (ends (c .before)) at (c .column-at .ensures)) (at-near (line s) (span s .row) o (s .before .before .pre) (first-at (line s) (span s .row) o)) tt
 
 last : (c : tie.After-column-at2) → Hold (ofZ w64 (c .column-at2 .result)) (lastOn (line (c .before .before .before .before)) (span (c .before .before .before .before) .row)) lineLimit
 last c =
     let s = c .before .before .before .before in
     let o = on (c .before .before .before) in
-    hold-as {r = c .column-at2 .result} (cc (ends (c .before .before))) (at-near (line s) (span s .row) o (s .before .before .pre) (last-at (line s) (span s .row) o)) tt
+    hold-as {r = c .column-at2 .result} (rw (ends (c .before .before)) at (c .column-at2 .ensures)) (at-near (line s) (span s .row) o (s .before .before .pre) (last-at (line s) (span s .row) o)) tt
 
 extend-requires : tie.Need-extend-requires
 extend-requires c κs = let h = first (c .before) in rw (h .is) (within-more (h .small) (lit≤ tt))

@@ -1,9 +1,11 @@
 -- `whole::inner::rounded` meets its contract: the terms follow the expressions. Assumes nothing.
-use mathlib.Core.Path.{_∙_}
+use mathlib.Core.Path.{_≡_, _∙_}
+use mathlib.Core.Bool.{true, false}
 use Prim.Native.Nat.{_^_}
 use borrow.Author.Needs.{needs}
 use lib.Dec.{lit<}
 use lib.IntN.{pos, natAbs}
+use lib.Signed.{ltZ}
 use mir.Syntax.{w64}
 use mir.Val.{ofZ}
 use Rattle.whole.specs.Rounded.{rounded}
@@ -33,8 +35,9 @@ unfolding rounded
 returns c =
     let s = c .before .before in
     let n = hold (s .pre .0) tt in
+    let below : ltZ (s .args .n) (pos 0) ≡ true = simp (n .is) at (c .if1 .taken) in
     hold-quot (hold-sub n (hold-quot (size (c .before)) (literal 2 tt) tt) tt) (hold (s .pre .1 .0) tt) tt .is
-    ∙ simp (simp (n .is) at (c .if1 .taken))
+    ∙ simp below
 
 add-result : tie.Need-add-result
 add-result c = let s = c .before .before in fits-add (hold (s .pre .0) tt) (hold-quot (size (c .before)) (literal 2 tt) tt) tt
@@ -49,8 +52,9 @@ unfolding rounded
 returns-2 c =
     let s = c .before .before in
     let n = hold (s .pre .0) tt in
+    let below : ltZ (s .args .n) (pos 0) ≡ false = simp (n .is) at (c .if1 .left) in
     hold-quot (hold-add n (hold-quot (size (c .before)) (literal 2 tt) tt) tt) (hold (s .pre .1 .0) tt) tt .is
-    ∙ simp (simp (n .is) at (c .if1 .left))
+    ∙ simp below
 
 pub rounded-spec : {M : Type 1} → statement M
 rounded-spec =
