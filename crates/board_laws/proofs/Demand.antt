@@ -2,8 +2,8 @@
 use mathlib.Core.Path.{_≡_, refl, sym, ap, _∙_}
 use mathlib.Core.Bool.{Bool, true, false, cond, _||_}
 use mathlib.Core.List.{List, [], _∷_, _++_}
-use mathlib.Core.Logic.{⊎-elim, inl, inr}
-use Prim.Native.Nat.{ℕ, _*_, _≤_}
+use mathlib.Core.Logic.{_⊎_, ⊎-elim, inl, inr}
+use Prim.Native.Nat.{ℕ, _*_, _≤_, _<_}
 use native.Mathlib.Nat.{le-refl, le-trans}
 use native.Mathlib.Omega.{arith}
 use borrow.Author.Tests.{eqb-true, eqb-false, le-leb}
@@ -48,9 +48,9 @@ blank {y} w e = record { sound = sound-of w (lit≤ tt) none; row = e; exact = �
 
 module _ {k : ℕ} {y : ℤ} {b : Board} {held : List Span} (h : Holds k y b held) where
   -- the union with one more span
-  spanned : (s : Span) → Lights (withSpan s (live b)) (covered (s ∷ held))
+  united : (s : Span) (x : ℤ) → (between (s .start) (s .end) x || lit (live b) x) ≡ covered (s ∷ held) x
   unfolding covered
-  spanned s x = lit-span s (live b) x ∙ ap (λ c. between (s .start) (s .end) x || c) (h .exact x)
+  united s x = ap (λ c. between (s .start) (s .end) x || c) (h .exact x)
 
   offer-holds : (s : Span) → Holds k y (offered k b s .board) (cond (eqb (offerRefusal k b s) 0) (s ∷ held) held)
   offer-holds s = offered-cases b s Kept k (λ _. h) (λ _ _ _. h) (λ o. ⊎-elim (accepts o) (λ full. rw full h) (added-either b s))
@@ -61,7 +61,7 @@ module _ {k : ℕ} {y : ℤ} {b : Board} {held : List Span} (h : Holds k y b hel
       accepts : Offerable k b s → added b s .refusal ≡ 0 → Kept (added b s)
       accepts o zero =
           let runs = added-runs b s (h .sound .few) zero in
-          rw zero (record { sound = added-sound (h .sound) (o .proper .inside); row = added-row b s ∙ h .row; exact = λ x. rw runs (spanned s x) })
+          rw zero (record { sound = added-sound (h .sound) (o .proper .inside); row = added-row b s ∙ h .row; exact = λ x. rw runs (lit-span s (live b) x ∙ united s x) })
 
   clear-holds : Holds k y (cleared k b .board) []
   clear-holds = rw (clear-chosen k b .holds (h .sound)) (blank (h .sound .row-near) (h .row))
@@ -118,6 +118,32 @@ module _ (k : ℕ) (b : Board) (out : List ℤ) where
       by true e = rw (accepted-numbers k b out (eqb-true (listRefusal k b (length out)) 0 e), ← flat-length (live b)) (drop-append-seam (flat (live b)) (drop (length (flat (live b))) out))
       by false e = ap (drop (2 * length (live b))) (refused-numbers k b out (eqb-false (listRefusal k b (length out)) 0 e))
 
+-- ---- an offer that is otherwise sound, to any board that is handed in: what stands in its array beyond its runs changes nothing
+
+module _ {k : ℕ} {b : Board} {s : Span} (o : Offerable k b s) where
+  -- runs that light just the board's columns and the span's
+  abbrev Unites : List Run → Type 0
+  Unites rs = Lights rs (λ x. between (s .start) (s .end) x || lit (live b) x)
+
+  union-ascends : Ascending k (edge k) (withSpan s (live b))
+  union-ascends = ascending-span s (o .proper .inside) (o .sound .ascending)
+
+  -- 8 exactly when the union needs more than 32 runs
+  pub union-refused : offerRefusal k b s ≡ 8 → (rs : List Run) → Unites rs → boardRuns < length rs
+  union-refused e rs lights = le-trans (added-eight b s (o .sound .few) .0 (rw (offered-number o) at e)) (fewest union-ascends rs (λ x. lights x ∙ sym (lit-span s (live b) x)))
+
+  pub union-needed : ((rs : List Run) → Ascending k (edge k) rs → Unites rs → boardRuns < length rs) → offerRefusal k b s ≡ 8
+  union-needed needs = rw (offered-number o) (added-eight b s (o .sound .few) .1 (needs (withSpan s (live b)) union-ascends (lit-span s (live b))))
+
+  -- and else 0: the board of its row that lights the union
+  pub union-either : (offerRefusal k b s ≡ 0) ⊎ (offerRefusal k b s ≡ 8)
+  union-either = rw (offered-number o) (⊎-elim inl (λ full. inr (ap (λ a. a .refusal) full)) (added-either b s))
+
+  pub union-lit : offerRefusal k b s ≡ 0 → Sound k (offered k b s .board) × ((offered k b s .board .row ≡ b .row) × Unites (live (offered k b s .board)))
+  union-lit e =
+      rw (offered-added o)
+      (added-sound (o .sound) (o .proper .inside), (added-row b s, λ x. rw (added-runs b s (o .sound .few) (sym (offered-number o) ∙ e)) (lit-span s (live b) x)))
+
 -- ---- demand 3
 
 pub demand-3 : (k : ℕ) (y : ℤ) → Within y k → (es : List Event) → Demand3 k y es
@@ -135,9 +161,9 @@ demand-3 k y w es =
           λ z fs v same.
           let g = holds fs (begun-holds v) in
           listed-alike (h .sound) (g .sound) (settled up (g .sound .ascending) (λ x. h .exact x ∙ (same x ∙ sym (g .exact x))));
-      refused = λ s p e rs lights. le-trans (added-eight b s (h .sound .few) .0 (rw (offered-number (offer s p)) at e)) (fewest (ascending-span s (p .inside) up) rs (λ x. lights x ∙ sym (spanned h s x)));
-      needed = λ s p needs. rw (offered-number (offer s p)) (added-eight b s (h .sound .few) .1 (needs (withSpan s (live b)) (ascending-span s (p .inside) up) (spanned h s)));
-      no-other = λ s p. rw (offered-number (offer s p)) (⊎-elim inl (λ full. inr (ap (λ a. a .refusal) full)) (added-either b s));
+      refused = λ s p e rs lights. union-refused (offer s p) e rs (λ x. lights x ∙ sym (united h s x));
+      needed = λ s p needs. union-needed (offer s p) (λ rs up lights. needs rs up (λ x. lights x ∙ united h s x));
+      no-other = λ s p. union-either (offer s p);
       other-row = λ s apart. offer-six k b s .1 (λ same. apart (same .1 ∙ h .row));
       outside = λ s row far. offer-seven k b s .1 ((h .sound, row ∙ sym (h .row)), far);
       unchanged = λ s some. ap (λ a. a .board) (refused-offer k b s some);

@@ -15,8 +15,8 @@ use Rattle.thick_segment.specs.Segments.{SegmentNear}
 use Rattle.coordinates.specs.Refusal.{routeRefusal, Accepted}
 use Rattle.coordinates.proofs.Laws.{accepted-exactly}
 use Rattle.route_joins.specs.Joins.{closedSegment, closedCount}
-use Rattle.route_joins.specs.Steps.{SegmentBySegment}
-use Rattle.route_joins.proofs.Walks.{place-kept, route-in-turn, route-five, route-other, refusal-told}
+use Rattle.route_joins.specs.Steps.{StepTold, SegmentBySegment}
+use Rattle.route_joins.proofs.Walks.{place-kept, route-told, route-in-turn, route-five, route-other, refusal-told}
 use Rattle.closed_thick_segment_iter.specs.declared.Walk.{Walk}
 use Rattle.closed_thick_segment_iter.specs.declared.Started.{Started}
 use Rattle.closed_thick_segment_iter.specs.Walks.{closedStart, closedStep, afterClosed}
@@ -45,6 +45,11 @@ module _ (limits : Limits) (cs : List ℤ) (walk : Walk) where
   pub step-other : {n : ℕ} → 0 < n → (n ≡ 5 → ⊥) → (closedStep limits cs walk .refusal ≡ n) ↔ (routeRefusal (limits .point) true cs (walk .width) ≡ n)
   unfolding closedStep
   step-other = route-other limits true cs (walk .width) (walk .offset) (walk .place)
+
+  -- what a step answers, wherever the walk stands and whatever list is handed to it
+  pub step-told : StepTold (limits .corner) (routeRefusal (limits .point) true cs (walk .width)) (closedCount cs) (closedSegment cs (walk .width) (walk .offset)) (walk .place) (closedStep limits cs walk)
+  unfolding closedStep
+  step-told = route-told limits true cs (walk .width) (walk .offset) (walk .place)
 
   -- where no segment is answered, refused or at the end, the walk is as it was
   pub step-kept : closedStep limits cs walk .found ≢ 1 → afterClosed limits cs walk ≡ walk

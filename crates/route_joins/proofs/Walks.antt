@@ -27,7 +27,7 @@ use Rattle.line_join.specs.Answers.{JoinValues, joinValues}
 use Rattle.line_join.proofs.Answers.{join-values-tell}
 use Rattle.route_joins.specs.declared.Step.{Step}
 use Rattle.route_joins.specs.declared.Step.the-variants.{Drawn, End, Refused}
-use Rattle.route_joins.specs.Steps.{StepValues, stepValues, checked, stepAt, routeStep, placeFrom, afterSteps, SegmentBySegment}
+use Rattle.route_joins.specs.Steps.{StepValues, stepValues, checked, stepAt, routeStep, placeFrom, afterSteps, StepTold, SegmentBySegment}
 
 -- ---- one step: `refusal` is that of the list and the width
 
@@ -49,6 +49,15 @@ module _ (k refusal count : ℕ) (segment : ℕ → Segment) (place : ℕ) where
       pub step-corner : isSegmentNear k (segment place) ≡ false → stepAt k refusal count segment place ≡ stepValues (Refused cornerRefused)
       unfolding stepAt checked
       step-corner e = rw (eq-eqb refusal 0 none, lt-ltb place count more, e)
+
+  step-told : StepTold k refusal count segment place (stepAt k refusal count segment place)
+  step-told =
+      record {
+        refused = step-refused;
+        past = step-end;
+        drawn = λ none more near. step-drawn none more (segment-near-iff k (segment place) .1 near);
+        far = λ none more far. step-corner none more (else-false (isSegmentNear k (segment place)) (λ e. far (segment-near-iff k (segment place) .0 e)));
+      }
 
 -- refused, every other number is 0: of both joins the kind and the eight coordinates too
 abbrev origin : Point
@@ -172,6 +181,11 @@ module _ (limits : Limits) (closed : Bool) (cs : List ℤ) (w : ℤ) (o : Offset
   pub route-other : (place : ℕ) {n : ℕ} → 0 < n → (n ≡ 5 → ⊥) → (routeStep limits closed cs w o place .refusal ≡ n) ↔ (routeRefusal (limits .point) closed cs w ≡ n)
   unfolding routeStep
   route-other place = others-exactly (limits .corner) _ _ _ place
+
+  -- what a step answers at a place, whatever the place is
+  pub route-told : (place : ℕ) → StepTold (limits .corner) (routeRefusal (limits .point) closed cs w) (segmentCount closed cs) (segmentOf closed cs w o) place (routeStep limits closed cs w o place)
+  unfolding routeStep
+  route-told place = step-told (limits .corner) _ _ _ place
 
   -- segment by segment, where `at p` is the walk at place p
   pub route-in-turn : {W : Type 0} {answer : W → StepValues} {after : W → W} {begun : W} (at : ℕ → W) → Accepted (limits .point) closed cs w

@@ -2,7 +2,7 @@
 use mathlib.Core.Path.{_≡_}
 use mathlib.Core.Bool.{Bool, cond}
 use mathlib.Core.List.{List}
-use Prim.Native.Nat.{ℕ, zero, suc, _+_, _<_}
+use Prim.Native.Nat.{ℕ, zero, suc, _+_, _≤_, _<_}
 use lib.Dec.{eqb, ltb}
 use lib.IntN.{ℤ}
 use Rattle.shapes.specs.Refusals.{cornerRefused}
@@ -46,6 +46,17 @@ stepAt k refusal count segment place =
 unfoldable pub routeStep : Limits → Bool → List ℤ → ℤ → Offset → ℕ → StepValues
 routeStep limits closed cs w o place =
     stepAt (limits .corner) (routeRefusal (limits .point) closed cs w) (segmentCount closed cs) (segmentOf closed cs w o) place
+
+-- what a step answers at any place, v being the answer. One of the four holds, and no two do: so v is settled
+pub record StepTold (k refusal count : ℕ) (segment : ℕ → Segment) (place : ℕ) (v : StepValues) : Type 0 where
+  -- the list or the width is refused
+  pub refused : 0 < refusal → v ≡ stepValues (Refused refusal)
+  -- a place past the last segment is the end
+  pub past : refusal ≡ 0 → count ≤ place → v ≡ stepValues End
+  -- the segment at the place
+  pub drawn : refusal ≡ 0 → place < count → SegmentNear k (segment place) → v ≡ stepValues (Drawn (segment place))
+  -- or 5, if one of its corners is beyond the limit
+  pub far : refusal ≡ 0 → place < count → (SegmentNear k (segment place) → ⊥) → v ≡ stepValues (Refused cornerRefused)
 
 -- the walk moves on where a segment was answered, and nowhere else
 unfoldable pub placeFrom : StepValues → ℕ → ℕ

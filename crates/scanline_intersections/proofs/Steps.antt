@@ -19,8 +19,8 @@ use Rattle.coordinates.specs.Refusal.{routeRefusal, Accepted}
 use Rattle.coordinates.proofs.Laws.{accepted-exactly}
 use Rattle.route_joins.specs.declared.Step.the-variants.{Drawn}
 use Rattle.route_joins.specs.Joins.{openSegment, openCount}
-use Rattle.route_joins.specs.Steps.{stepValues, afterSteps, SegmentBySegment}
-use Rattle.route_joins.proofs.Walks.{place-kept, route-in-turn, route-five, route-other}
+use Rattle.route_joins.specs.Steps.{stepValues, afterSteps, StepTold, SegmentBySegment}
+use Rattle.route_joins.proofs.Walks.{place-kept, route-told, route-in-turn, route-five, route-other}
 use Rattle.thick_segment_iter.specs.Walks.{openStep, afterOpen}
 use Rattle.scanline_intersections.specs.declared.Intersections.{Intersections}
 use Rattle.scanline_intersections.specs.Merging.{walkOf}
@@ -54,6 +54,11 @@ module _ (limits : Limits) (cs : List ℤ) (walk : Intersections) where
   pub places-equal : afterPolyline limits cs walk .place ≡ afterOpen limits cs (record { place = walk .place; width = walk .width }) .place
   unfolding afterPolyline afterOpen
   places-equal = rw steps-equal
+
+  -- what a step answers, wherever the walk stands and whatever list is handed to it
+  pub step-told : StepTold (limits .corner) (routeRefusal (limits .point) false cs (walk .width)) (openCount cs) (openSegment cs (walk .width)) (walk .place) (polylineStep limits cs walk)
+  unfolding polylineStep
+  step-told = route-told limits false cs (walk .width) None (walk .place)
 
   -- where no segment is answered, refused or at the end, the walk is as it was
   pub step-kept : polylineStep limits cs walk .found ≢ 1 → afterPolyline limits cs walk ≡ walk

@@ -14,8 +14,8 @@ use Rattle.thick_segment.specs.Segments.{SegmentNear}
 use Rattle.coordinates.specs.Refusal.{routeRefusal, Accepted}
 use Rattle.coordinates.proofs.Laws.{accepted-exactly}
 use Rattle.route_joins.specs.Joins.{openSegment, openCount}
-use Rattle.route_joins.specs.Steps.{SegmentBySegment}
-use Rattle.route_joins.proofs.Walks.{place-kept, route-in-turn, route-five, route-other, refusal-told}
+use Rattle.route_joins.specs.Steps.{StepTold, SegmentBySegment}
+use Rattle.route_joins.proofs.Walks.{place-kept, route-told, route-in-turn, route-five, route-other, refusal-told}
 use Rattle.thick_segment_iter.specs.declared.Walk.{Walk}
 use Rattle.thick_segment_iter.specs.declared.Started.{Started}
 use Rattle.thick_segment_iter.specs.Walks.{openStart, openStep, afterOpen}
@@ -44,6 +44,11 @@ module _ (limits : Limits) (cs : List ℤ) (walk : Walk) where
   pub step-other : {n : ℕ} → 0 < n → (n ≡ 5 → ⊥) → (openStep limits cs walk .refusal ≡ n) ↔ (routeRefusal (limits .point) false cs (walk .width) ≡ n)
   unfolding openStep
   step-other = route-other limits false cs (walk .width) None (walk .place)
+
+  -- what a step answers, wherever the walk stands and whatever list is handed to it
+  pub step-told : StepTold (limits .corner) (routeRefusal (limits .point) false cs (walk .width)) (openCount cs) (openSegment cs (walk .width)) (walk .place) (openStep limits cs walk)
+  unfolding openStep
+  step-told = route-told limits false cs (walk .width) None (walk .place)
 
   -- where no segment is answered, refused or at the end, the walk is as it was
   pub step-kept : openStep limits cs walk .found ≢ 1 → afterOpen limits cs walk ≡ walk
