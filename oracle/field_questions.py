@@ -33,9 +33,12 @@ STARTS = [
     ("o 3 1 4096 4 0 0 -512 5", "4 0 0 | 4 0 0 None | 4 0 0 0 0 0"),
 ]
 
-# A walk at place 1 that has gathered 5 to 9: past the end it hands that out; refused, it is as it was.
+# A walk at place 1 that has gathered 5 to 9: at the end, and past it where the list has fewer points, it hands that out; refused, it is
+# as it was.
 NEXT = [
     ("v 3 0 7 4 0 0 5 5", "0 true 7 5 9 | 1 3 7 0 0"),
+    ("v 3 0 7 2 0 0", "0 true 7 5 9 | 1 3 7 0 0"),
+    ("v 3 0 7 0", "0 true 7 5 9 | 1 3 7 0 0"),
     ("v 3 0 7 3 0 0 5", "1 false 0 0 0 | 1 3 7 5 9"),
     (f"v 3 0 7 {MANY}", "2 false 0 0 0 | 1 3 7 5 9"),
     ("v 65 0 7 4 0 0 5 5", "3 false 0 0 0 | 1 65 7 5 9"),

@@ -9,13 +9,14 @@ use borrow.Author.Tests.{eq-eqb}
 use lib.Dec.{eqb, leb}
 use lib.IntN.{ℤ, pos, negℤ}
 use lib.ListN.{length}
+use Rattle.whole.specs.Number.{Within}
 use Rattle.whole.proofs.Columns.{count-same}
 use Rattle.shapes.specs.declared.limits.Limits.{Limits}
 use Rattle.board.specs.declared.Board.{Board}
 use Rattle.board.specs.Runs.{lit, total}
 use Rattle.board.specs.Boards.{Sound, live, listing, notListed, over, told, toldTo, listed, listedTo}
 use Rattle.board.proofs.Sound.{sound-iff}
-use Rattle.board_laws.specs.Histories.{Event, covered, boardAfter, runsAfter, spansAfter, runsIn}
+use Rattle.board_laws.specs.Histories.{Event, covered, boardAfter, runsAfter, spansAfter, runsIn, columns, Demand3}
 use Rattle.board_laws.proofs.Demand.{demand-3}
 use Rattle.board_laws.proofs.Refused.{list-zero}
 use Rattle.route_joins.proofs.Near.{joins-exactly}
@@ -38,6 +39,30 @@ listed-told {k} {b} n sound = rw (sound-iff k b .1 sound)
 listed-told-to : {k : ℕ} {b : Board} (out : List ℤ) → Sound k b → listedTo k b out ≡ toldTo b out
 unfolding listedTo
 listed-told-to {k} {b} out sound = rw (sound-iff k b .1 sound)
+
+-- ---- of a row that is not refused
+
+module _ (limits : Limits) (closed : Bool) (cs : List ℤ) (w row : ℤ) (free : rowRefusal limits closed cs w row ≡ 0) where
+  inside : Within row (limits .corner)
+  inside = row-none limits closed cs w row .0 free .1 .0
+
+  demand : Demand3 (limits .corner) row (offering (spansOn closed cs w row))
+  demand = demand-3 (limits .corner) row inside (offering (spansOn closed cs w row))
+
+  -- what the accepted spans cover is what all spans cover
+  union : (x : ℤ) → covered (spansAfter (limits .corner) row (offering (spansOn closed cs w row))) x ≡ covered (spansOn closed cs w row) x
+  union =
+      let z = row-none limits closed cs w row .0 free in
+      let a = draw-none limits closed cs w .0 (z .0) in
+      row-covered (limits .corner) (a .0) (joins-exactly (limits .corner) closed cs w .1 (a .1)) row inside (z .1 .1)
+
+  -- the total of its runs is the number of columns that its segments' spans cover
+  pub row-columns : total (live (boardOn (joinsOf (limits .corner) closed cs w) row .board)) ≡ pos (columns (limits .corner) (covered (spansOn closed cs w row)))
+  row-columns =
+      ap (λ b. total (live b)) (none-reached limits closed cs w row free) ∙ demand .pixels
+      ∙ ap pos (count-same (covered (spansAfter (limits .corner) row (offering (spansOn closed cs w row)))) (covered (spansOn closed cs w row)) (negℤ (pos (limits .corner))) (2 * limits .corner + 1) (λ x l. union x))
+
+-- ---- of the lent list
 
 module _ (limits : Limits) (closed : Bool) (cs : List ℤ) (w row : ℤ) (out : List ℤ) where
   abbrev k : ℕ
@@ -84,22 +109,16 @@ module _ (limits : Limits) (closed : Bool) (cs : List ℤ) (w row : ℤ) (out : 
 
     pub row-told : RowTold limits closed cs w row out
     row-told =
-        let z = row-none limits closed cs w row .0 (none .0) in
-        let inside = z .1 .0 in
-        let demand = demand-3 k row inside history in
-        let a = draw-none limits closed cs w .0 (z .0) in
-        let union = row-covered k (a .0) (joins-exactly k closed cs w .1 (a .1)) row inside (z .1 .1) in
+        let demand = demand limits closed cs w row (none .0) in
         let room = list-zero k b (length out) .1 (rw same at sound, rw same at (none .1)) in
         let written : runsIn (rowAnswer limits closed cs w row (length out) .count) (rowTo limits closed cs w row out) ≡ runsAfter k row history = rw (answer-is, list-is) (demand .written out room) in
         let count = ap (λ l. l .count) answer-is ∙ demand .counted out room in
         record {
           counted = count ∙ ap length (sym written);
           beyond = rw (count, list-is) (demand .beyond out);
-          lights = λ x. ap (λ rs. lit rs x) written ∙ demand .exact x ∙ union x;
+          lights = λ x. ap (λ rs. lit rs x) written ∙ demand .exact x ∙ union limits closed cs w row (none .0) x;
           apart = rw written (demand .apart);
-          pixels =
-              ap (λ l. l .total) answer-is ∙ demand .summed out room ∙ ap total (demand .written out room) ∙ demand .pixels
-              ∙ ap pos (count-same (covered (spansAfter k row history)) (covered (spansOn closed cs w row)) (negℤ (pos k)) (2 * k + 1) (λ x l. union x));
+          pixels = ap (λ l. l .total) answer-is ∙ demand .summed out room ∙ ap total (demand .written out room) ∙ ap (λ c. total (live c)) (sym same) ∙ row-columns limits closed cs w row (none .0);
         }
 
   -- ---- refused

@@ -19,6 +19,7 @@ use Rattle.shapes.specs.Refusals.{formRefused}
 use Rattle.board.specs.declared.Board.{Board}
 use Rattle.board.specs.Runs.{lit, total}
 use Rattle.board.specs.Boards.{Sound, live}
+use Rattle.board_laws.specs.Histories.{covered, columns}
 use Rattle.board_laws.proofs.Lit.{total-columns}
 use Rattle.route_file.specs.declared.Counted.{Counted}
 use Rattle.route_file.specs.Form.{saidLength, isFormed, Formed}
@@ -28,12 +29,14 @@ use Rattle.route.specs.declared.Joins.{Joins}
 use Rattle.route.specs.declared.RowRange.{RowRange}
 use Rattle.route.specs.Joined.{Kept, joinsOf}
 use Rattle.route.specs.Rows.{rowsIn, RowsNear, rowCount, rowsRefusal}
-use Rattle.route.specs.Answers.{drawRefusal, wholeRefusal}
+use Rattle.route.specs.Answers.{drawRefusal, rowRefusal, wholeRefusal}
+use Rattle.route.specs.Words.{spansOn}
 use Rattle.route.proofs.Chains.{Ready, kept-route}
 use Rattle.shapes.proofs.Choices.{or-none}
 use Rattle.route.proofs.Drawn.{drawn-sound}
 use Rattle.route.proofs.Kept.{kept-more}
 use Rattle.route.proofs.Ranges.{rows-near, row-within, count-small}
+use Rattle.route.proofs.Told.{row-columns}
 use Rattle.row_text.specs.Pixels.{litOn, litAt, litIn, routePixels, entryPixels, allPixels, filePixels}
 use Rattle.row_text.proofs.Sums.{sum-within}
 
@@ -45,6 +48,12 @@ most = 2 * lineLimit + 1
 
 total-within : {b : Board} → Sound lineLimit b → Within (total (live b)) most
 total-within {b} s = rw (total-columns (s .ascending)) (record { bound = count-most (lit (live b)) (negℤ (pos lineLimit)) most })
+
+-- what a row that is not refused adds is the number of columns that its segments' spans cover
+pub lit-columns : (limits : Limits) (closed : Bool) (cs : List ℤ) (w row : ℤ) → rowRefusal limits closed cs w row ≡ 0
+    → litOn (joinsOf (limits .corner) closed cs w) row ≡ pos (columns (limits .corner) (covered (spansOn closed cs w row)))
+unfolding litOn
+lit-columns = row-columns
 
 module _ {route : Joins} (kept : Kept lineLimit route) where
   pub row-pixels : {row : ℤ} → Within row lineLimit → Within (litOn route row) most

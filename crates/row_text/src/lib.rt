@@ -7,11 +7,20 @@ ghost use Rattle.row_text.specs.Pixels.{filePixels};
 pub mod inner; // inner.rt: the lines of a file that is not refused
 
 use inner::print_routes;
+use libc::STDIN_FILENO;
 use route_file::route_count;
 use shapes::limits::panel;
 use writing::say;
 use writing::say_number;
 use writing::say_refused;
+
+/// Prints of standard input what `print_file` prints of a file. A file has at most 65,535 bytes: one more is enough to see that it
+/// has too many.
+pub fn print_input() {
+    let mut file = [0u8; 65536];
+    let n = io::read_full(STDIN_FILENO, &mut file);
+    print_file(&file[..n]);
+}
 
 /// Prints how many routes a file has; of each its runs, rows ascending, or its refusal; and the pixels of all printed runs, which it
 /// also answers. 9 if the file's form is wrong, or it has more than 65,535 bytes: `refused 9` alone is printed, and there are none.
