@@ -2,7 +2,7 @@
 use mathlib.Core.Path.{refl}
 use Rattle.whole.specs.Number.{isWithin}
 use Rattle.whole.specs.Rounded.{rounded}
-use Rattle.shapes.specs.Shape.{samePoint, isNear, isLineNear, plus, minus, quarterTurn, determinant, dotProduct, squaredLength, delta}
+use Rattle.shapes.specs.Shape.{samePoint, isNear, isLineNear, plus, minus, quarterTurn, determinant, dotProduct, squaredLength, delta, midpoint}
 use Rattle.shapes.specs.Strokes.{isThin, strokeRefusal}
 use Rattle.linear_equation.specs.Equation.{equationOf, distanceOf, isOnSide}
 use Rattle.intersection_params.specs.Crossing.{cramerOf, solutionOf, sideOf, drawnOf, crossingOf, nearlyColinear}
@@ -10,9 +10,9 @@ use Rattle.bresenham.specs.Walk.{directionOf, along, parametersAlong, nextAll, 
 use Rattle.parallels.specs.Parallels.{bent, turnOf, nextParallel, aimed, thickness, planAlong, planOf, parallelsStart, isDone, grown, yieldOf, parallelsFrom, spare, parallels, parallelsOf}
 use Rattle.extents.specs.Edges.{seen, lasts, closed, extentsOf}
 use Rattle.extents.specs.Entry.{extentsAnswer}
-use Rattle.line_join.specs.Answers.{joinValues, madeOf, joinAnswer, pointsAnswer}
+use Rattle.line_join.specs.Answers.{joinValues, capsValues, madeOf, joinAnswer, pointsAnswer, startCapsAnswer, endCapsAnswer}
 use Rattle.line_join.specs.Miter.{miterLimit, reaches}
-use Rattle.line_join.specs.Caps.{isCornersNear, isJoinNear}
+use Rattle.line_join.specs.Caps.{isCornersNear, isJoinNear, fillerOf, capOf, startCapsOf, endCapsOf}
 use Rattle.line_join.specs.Join.{meet, overlapping, bentAt, bentOf, startOf, joinOf}
 use Rattle.thick_segment.specs.Segments.{isSegmentNear}
 use Rattle.coordinates.specs.Points.{pointAt, pointCount, placeAfter, placeBefore}
@@ -21,8 +21,9 @@ use Rattle.route_joins.specs.Joins.{bendAt, closedJoin, joinOn, endPlace, segme
 use Rattle.route_joins.specs.Steps.{stepValues, checked, stepAt, routeStep, placeFrom}
 use Rattle.closed_thick_segment_iter.specs.Walks.{closedStart, closedStep, afterClosed}
 use Rattle.corners.specs.Cases.{Walks, Holds, Every}
-use Rattle.corners.specs.Worked.{evenWidth, oddWidth, turnedRound, bevelLeft, bevelRight, degenerate, outAndBack, worked}
+use Rattle.corners.specs.Worked.{evenWidth, oddWidth, turnedRound, atThreshold, diagonal, leftOnly, rightOnly, bevelLeft, bevelRight, degenerate, shortTurn, oddFiller, outAndBack, worked}
 
 pub worked-hold : Every worked
-unfolding Every Holds worked evenWidth oddWidth turnedRound bevelLeft bevelRight degenerate outAndBack Walks closedStart closedStep afterClosed routeStep stepAt checked stepValues placeFrom isSegmentNear segmentCount segmentOf segmentsOf endPlace joinOn closedJoin bendAt routeRefusal areWithin isMiscounted isOdd pointAt pointCount placeAfter placeBefore joinValues madeOf joinAnswer pointsAnswer isJoinNear isCornersNear joinOf startOf bentOf bentAt overlapping meet reaches miterLimit crossingOf nearlyColinear drawnOf sideOf solutionOf cramerOf equationOf distanceOf isOnSide rounded quarterTurn determinant extentsAnswer extentsOf closed lasts seen parallelsOf parallels spare parallelsFrom yieldOf grown isDone parallelsStart planOf planAlong thickness aimed nextParallel turnOf bent increased decreased nextAll previousAll parametersAlong along directionOf strokeRefusal isThin isLineNear isNear isWithin samePoint plus minus dotProduct squaredLength delta
-worked-hold = ((refl, refl), ((refl, refl), ((refl, refl), (refl, (refl, (refl, ((refl, (refl, (refl, refl))), tt)))))))
+unfolding Every Holds worked evenWidth oddWidth turnedRound atThreshold diagonal leftOnly rightOnly bevelLeft bevelRight degenerate shortTurn oddFiller outAndBack Walks closedStart closedStep afterClosed routeStep stepAt checked stepValues placeFrom isSegmentNear segmentCount segmentOf segmentsOf endPlace joinOn closedJoin bendAt routeRefusal areWithin isMiscounted isOdd pointAt pointCount placeAfter placeBefore startCapsAnswer endCapsAnswer capsValues startCapsOf endCapsOf capOf fillerOf midpoint joinValues madeOf joinAnswer pointsAnswer isJoinNear isCornersNear joinOf startOf bentOf bentAt overlapping meet reaches miterLimit crossingOf nearlyColinear drawnOf sideOf solutionOf cramerOf equationOf distanceOf isOnSide rounded quarterTurn determinant extentsAnswer extentsOf closed lasts seen parallelsOf parallels spare parallelsFrom yieldOf grown isDone parallelsStart planOf planAlong thickness aimed nextParallel turnOf bent increased decreased nextAll previousAll parametersAlong along directionOf strokeRefusal isThin isLineNear isNear isWithin samePoint plus minus dotProduct squaredLength delta
+worked-hold =
+    ((refl, refl), ((refl, refl), ((refl, refl), ((refl, refl), ((refl, refl), ((refl, refl), ((refl, refl), (refl, (refl, (refl, (refl, ((refl, refl), ((refl, (refl, (refl, refl))), tt)))))))))))))

@@ -20,11 +20,12 @@ use Rattle.parallels.specs.declared.Parallel.{Parallel}
 use Rattle.parallels.specs.Parallels.{parallelsOf}
 use Rattle.extents.specs.declared.Edges.{Edges}
 use Rattle.extents.specs.Entry.{accepted, extentsAnswer}
+use Rattle.line_join.specs.declared.Caps.{Caps}
 use Rattle.line_join.specs.declared.Corners.{Corners}
 use Rattle.line_join.specs.declared.Join.{Join}
 use Rattle.line_join.specs.declared.Joined.the-variants.{Made}
 use Rattle.line_join.specs.declared.Kind.the-variants.{Miter}
-use Rattle.line_join.specs.Answers.{joinValues, pointsAnswer}
+use Rattle.line_join.specs.Answers.{joinValues, capsValues, pointsAnswer, startCapsAnswer, endCapsAnswer}
 use Rattle.thick_segment.specs.declared.Segment.{Segment}
 use Rattle.route_joins.specs.declared.Step.the-variants.{Drawn, End}
 use Rattle.route_joins.specs.Steps.{stepValues}
@@ -49,8 +50,10 @@ pub data Case : Type 0 where
   board : List Run → List Run → ℤ → Case
   -- a line and a point, and whether the point is on the left, and on the right
   sides : Line → Point → Bool → Bool → Case
-  -- a line and a width, and its parallels and its edges
-  stroked : Line → ℤ → List Parallel → Edges → Case
+  -- a line, a width and an offset, and its parallels and its edges
+  stroked : Line → ℤ → Offset → List Parallel → Edges → Case
+  -- a join, and its cap lines where the second line starts, and where the first one ends
+  capped : Join → Caps → Caps → Case
   -- the coordinates of a closed route and a width, and its segments
   closed : List ℤ → ℤ → List Segment → Case
 
@@ -79,7 +82,8 @@ Holds (board rs listing n) =
     (listed cornerLimit (boardOfRow0 rs) (2 * length listing) ≡ record { refusal = 0; count = length listing; total = n }) × (listedTo cornerLimit (boardOfRow0 rs) (replicate (2 * length listing) (pos 0)) ≡ flat listing)
 Holds (sides l p left right) =
     (sideAnswer crossingLimit l p Left ≡ record { refusal = 0; holds = left }) × (sideAnswer crossingLimit l p Right ≡ record { refusal = 0; holds = right })
-Holds (stroked l w ps e) = (parallelsOf l w None ≡ ps) × (extentsAnswer pointLimit l w None ≡ accepted e)
+Holds (stroked l w o ps e) = (parallelsOf l w o ≡ ps) × (extentsAnswer pointLimit l w o ≡ accepted e)
+Holds (capped j starting ending) = (startCapsAnswer cornerLimit j ≡ capsValues starting) × (endCapsAnswer cornerLimit j ≡ capsValues ending)
 Holds (closed cs w ss) = (closedStart pointLimit cs w None .refusal ≡ 0) × Walks cs (closedStart pointLimit cs w None .walk) ss
 
 -- each case of a list holds

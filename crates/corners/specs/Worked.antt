@@ -4,14 +4,15 @@ use mathlib.Core.List.{List, [], _∷_}
 use lib.IntN.{ℤ, pos, negsuc}
 use Rattle.shapes.specs.declared.Side.{Side}
 use Rattle.shapes.specs.declared.Side.the-variants.{Left, Right}
-use Rattle.shapes.specs.declared.Offset.the-variants.{None}
+use Rattle.shapes.specs.declared.Offset.the-variants as offset
 use Rattle.shapes.specs.Shape.{pointOf}
 use Rattle.bresenham.specs.Walk.{placeOf}
 use Rattle.parallels.specs.declared.Parallel.{Parallel}
 use Rattle.line_join.specs.declared.Join.{Join}
 use Rattle.line_join.specs.declared.Kind.the-variants.{Bevel, Degenerate, Colinear, Start}
+use Rattle.line_join.specs.declared.Caps.the-variants.{Two}
 use Rattle.line_join.specs.Join.{cornersOf, alike}
-use Rattle.corners.specs.Cases.{Case, joins, stroked, closed, line}
+use Rattle.corners.specs.Cases.{Case, joins, stroked, capped, closed, line}
 
 -- a parallel's side, first point and error
 abbrev normal : Side → ℤ → ℤ → ℤ → Parallel
@@ -31,7 +32,7 @@ extra s x y e = record { side = s; start = placeOf (pointOf x y) e; extra = true
 -- The edges begin at the last of each side, and both are Normal: (1,-2) + (3,1) = (4,-1) and (0,1) + (3,1) = (3,2).
 unfoldable pub evenWidth : Case
 evenWidth =
-    stroked (line (pos 0) (pos 0) (pos 3) (pos 1)) (pos 4)
+    stroked (line (pos 0) (pos 0) (pos 3) (pos 1)) (pos 4) offset.None
     (normal Right (pos 0) (pos 0) (pos 0) ∷ normal Left (pos 0) (negsuc 0) (pos 0) ∷ normal Right (pos 0) (pos 1) (pos 0) ∷ normal Left (pos 1) (negsuc 1) (pos 2) ∷ [])
     (record { left = line (pos 1) (negsuc 1) (pos 4) (negsuc 0); right = line (pos 0) (pos 1) (pos 3) (pos 2) })
 
@@ -44,7 +45,7 @@ evenWidth =
 -- The left edge ends at (1,-1) + (3,2) = (4,1), the right one, being Extra, at (0,1) + (3,2) - (1,0) - (0,1) = (2,2).
 unfoldable pub oddWidth : Case
 oddWidth =
-    stroked (line (pos 0) (pos 0) (pos 3) (pos 2)) (pos 3)
+    stroked (line (pos 0) (pos 0) (pos 3) (pos 2)) (pos 3) offset.None
     (normal Right (pos 0) (pos 0) (pos 0) ∷ extra Left (pos 0) (negsuc 0) (negsuc 1) ∷ extra Right (pos 0) (pos 1) (pos 0) ∷ normal Left (pos 1) (negsuc 0) (negsuc 1) ∷ [])
     (record { left = line (pos 1) (negsuc 0) (pos 4) (pos 1); right = line (pos 0) (pos 1) (pos 2) (pos 2) })
 
@@ -57,9 +58,64 @@ oddWidth =
 -- Left edge to (1,1) + (-3,2) = (-2,3); right edge to (0,-1) + (-3,2) - (-1,0) - (0,1) = (-2,0).
 unfoldable pub turnedRound : Case
 turnedRound =
-    stroked (line (pos 0) (pos 0) (negsuc 2) (pos 2)) (pos 3)
+    stroked (line (pos 0) (pos 0) (negsuc 2) (pos 2)) (pos 3) offset.None
     (normal Right (pos 0) (pos 0) (pos 0) ∷ extra Left (pos 0) (pos 1) (pos 0) ∷ extra Right (pos 0) (negsuc 0) (negsuc 1) ∷ normal Left (pos 1) (pos 1) (pos 2) ∷ [])
     (record { left = line (pos 1) (pos 1) (negsuc 1) (pos 3); right = line (pos 0) (negsuc 0) (negsuc 1) (pos 0) })
+
+-- (0,0)-(2,1) at width 4, where errors come to a and to -a themselves. a = 2, b = 1: 2b = 2, 2a = 4, the steps of (0,0)-(3,1). Accumulator
+-- (4+2)/2 = 3, threshold 8² · 5 = 320. The left side skips (0,0), and is at (0,-1) with error 2.
+--   right  (0,0)   0 > -2: Normal, error 0; then (0,1) with -2.                                                      Accumulator 7, square 49
+--   left   (0,-1)  2 is not above 2: Normal, error 0; then (0,-2) with 4.                                            11, 121
+--   right  (0,1)   -2 ≤ -2: Extra; 0 - 2 ≤ -2: 2 and a carry, error 0 as it was before it fell; then (-1,1) with 2.  13, 169
+--   left   (0,-2)  4 > 2: Extra; 0 + 2 = 2 is not above 2: no carry, passed over; then (1,-2) with 0
+--          (1,-2)  0 ≤ 2: Normal, error 2.                                                                           17, 289
+--   right  (-1,1)  2 > -2: Normal, error 2.                                                                          21, 441 > 320: the end
+-- Both edges are Normal: (1,-2) + (2,1) = (3,-1) and (-1,1) + (2,1) = (1,2).
+unfoldable pub atThreshold : Case
+atThreshold =
+    stroked (line (pos 0) (pos 0) (pos 2) (pos 1)) (pos 4) offset.None
+    (normal Right (pos 0) (pos 0) (pos 0) ∷ normal Left (pos 0) (negsuc 0) (pos 0) ∷ extra Right (pos 0) (pos 1) (pos 0) ∷ normal Left (pos 1) (negsuc 1) (pos 2) ∷ normal Right (negsuc 0) (pos 1) (pos 2) ∷ [])
+    (record { left = line (pos 1) (negsuc 1) (pos 3) (negsuc 0); right = line (negsuc 0) (pos 1) (pos 1) (pos 2) })
+
+-- (0,0)-(2,2) at width 3. a = b = 2, a tie, so that x is major: (1,0), minor (0,1), 2b = 2a = 4. The perpendicular's delta (2,-2) is a tie
+-- too: major (1,0), minor (0,-1), which is not (-1,0): errors rise on the left. Accumulator (4+4)/2 = 4, threshold 6² · 8 = 288. The left
+-- side skips (0,0), and is at (1,0) with error 4.
+--   right  (0,0)   0 > -2: Normal, error 0; then (-1,0) with -4.                                 Accumulator 8, square 64
+--   left   (1,0)   4 > 2: Extra; 0 + 4 is above 2: 0 and a carry, error 0; then (1,-1) with 0.   12, 144
+--   right  (-1,0)  -4 ≤ -2: Extra; 0 - 4 ≤ -2: 0 and a carry, error 0 as it was before it fell.  16, 256
+--   left   (1,-1)  0 ≤ 2: Normal, error 0.                                                       20, 400 > 288: the end
+-- The left edge ends at (1,-1) + (2,2) = (3,1), the right one, being Extra, at (-1,0) + (2,2) - (1,0) - (0,1) = (0,1).
+unfoldable pub diagonal : Case
+diagonal =
+    stroked (line (pos 0) (pos 0) (pos 2) (pos 2)) (pos 3) offset.None
+    (normal Right (pos 0) (pos 0) (pos 0) ∷ extra Left (pos 1) (pos 0) (pos 0) ∷ extra Right (negsuc 0) (pos 0) (pos 0) ∷ normal Left (pos 1) (negsuc 0) (pos 0) ∷ [])
+    (record { left = line (pos 1) (negsuc 0) (pos 3) (pos 1); right = line (negsuc 0) (pos 0) (pos 0) (pos 1) })
+
+-- (0,0)-(3,1) at width 4 with offset Left: the numbers of `evenWidth`, and each parallel on the left, from the line itself on.
+--   (0,0)   0 ≤ 3: Normal, error 0; then (0,-1) with 2.             Accumulator 10, square 100
+--   (0,-1)  2 ≤ 3: Normal, error 0; then (0,-2) with 4.             16, 256
+--   (0,-2)  4 > 3: Extra; 0 + 2 = 2 is not above 3: no carry, passed over; then (1,-2) with -2
+--   (1,-2)  -2 ≤ 3: Normal, error 2; then (1,-3) with 0.            22, 484
+--   (1,-3)  0 ≤ 3: Normal, error 2.                                 28, 784 > 640: the end
+-- The left edge ends at (1,-3) + (3,1) = (4,-2); the right one, which no parallel replaces, is the line.
+unfoldable pub leftOnly : Case
+leftOnly =
+    stroked (line (pos 0) (pos 0) (pos 3) (pos 1)) (pos 4) offset.Left
+    (normal Left (pos 0) (pos 0) (pos 0) ∷ normal Left (pos 0) (negsuc 0) (pos 0) ∷ normal Left (pos 1) (negsuc 1) (pos 2) ∷ normal Left (pos 1) (negsuc 2) (pos 2) ∷ [])
+    (record { left = line (pos 1) (negsuc 2) (pos 4) (negsuc 1); right = line (pos 0) (pos 0) (pos 3) (pos 1) })
+
+-- The same with offset Right, where errors fall.
+--   (0,0)   0 > -3: Normal, error 0; then (0,1) with -2.            10, 100
+--   (0,1)   -2 > -3: Normal, error 0; then (0,2) with -4.           16, 256
+--   (0,2)   -4 ≤ -3: Extra; 0 - 2 = -2 is above -3: no carry, passed over; then (-1,2) with 2
+--   (-1,2)  2 > -3: Normal, error -2; then (-1,3) with 0.           22, 484
+--   (-1,3)  0 > -3: Normal, error -2.                               28, 784
+-- The right edge ends at (-1,3) + (3,1) = (2,4); the left one is the line.
+unfoldable pub rightOnly : Case
+rightOnly =
+    stroked (line (pos 0) (pos 0) (pos 3) (pos 1)) (pos 4) offset.Right
+    (normal Right (pos 0) (pos 0) (pos 0) ∷ normal Right (pos 0) (pos 1) (pos 0) ∷ normal Right (negsuc 0) (pos 2) (negsuc 1) ∷ normal Right (negsuc 0) (pos 3) (negsuc 1) ∷ [])
+    (record { left = line (pos 0) (pos 0) (pos 3) (pos 1); right = line (negsuc 0) (pos 3) (pos 2) (pos 4) })
 
 -- ---- joins at width 3: three Normal parallels, so that the edges are one pixel to either side along the line's minor axis
 
@@ -68,22 +124,42 @@ turnedRound =
 -- 54. (-3,2) is on the right of y = 1: no overlap. (12,-1) is 6²+1² = 37 from (6,0), above 6² = 36: cut at (6,-1) and (6,1).
 unfoldable pub bevelLeft : Case
 bevelLeft =
-    joins (pointOf (pos 0) (pos 0)) (pointOf (pos 6) (pos 0)) (pointOf (negsuc 2) (pos 3)) (pos 3) None
+    joins (pointOf (pos 0) (pos 0)) (pointOf (pos 6) (pos 0)) (pointOf (negsuc 2) (pos 3)) (pos 3) offset.None
     (record { kind = Bevel Left; ending = cornersOf (pointOf (pos 6) (negsuc 0)) (pointOf (pos 0) (pos 1)); starting = cornersOf (pointOf (pos 6) (pos 1)) (pointOf (pos 0) (pos 1)) })
 
 -- (0,0), (6,0), (-3,-3). Second edges: left (6,1)-(-3,-2), right (6,-1)-(-3,-4). Crossings (0,-1) and (12,1), determinant 18: Right.
 -- (-3,-2) is on the left of y = -1: no overlap. (12,1) is 37 from (6,0): cut at (6,1) and (6,-1).
 unfoldable pub bevelRight : Case
 bevelRight =
-    joins (pointOf (pos 0) (pos 0)) (pointOf (pos 6) (pos 0)) (pointOf (negsuc 2) (negsuc 2)) (pos 3) None
+    joins (pointOf (pos 0) (pos 0)) (pointOf (pos 6) (pos 0)) (pointOf (negsuc 2) (negsuc 2)) (pos 3) offset.None
     (record { kind = Bevel Right; ending = cornersOf (pointOf (pos 0) (negsuc 0)) (pointOf (pos 6) (pos 1)); starting = cornersOf (pointOf (pos 0) (negsuc 0)) (pointOf (pos 6) (negsuc 0)) })
 
 -- (0,0), (4,0), (-2,1). Second edges: left (4,1)-(-2,2), right (4,-1)-(-2,0). Determinant -4: Left; 16 is below the dot product 24, so
 -- both crossings are replaced by the first edges' ends. (-2,0) is on the left of y = 1: overlap. The edges end and start where they are.
 unfoldable pub degenerate : Case
 degenerate =
-    joins (pointOf (pos 0) (pos 0)) (pointOf (pos 4) (pos 0)) (pointOf (negsuc 1) (pos 1)) (pos 3) None
+    joins (pointOf (pos 0) (pos 0)) (pointOf (pos 4) (pos 0)) (pointOf (negsuc 1) (pos 1)) (pos 3) offset.None
     (record { kind = Degenerate Left; ending = cornersOf (pointOf (pos 4) (negsuc 0)) (pointOf (pos 4) (pos 1)); starting = cornersOf (pointOf (pos 4) (pos 1)) (pointOf (pos 4) (negsuc 0)) })
+
+-- ---- a join at width 7: seven Normal parallels, so that the edges are three pixels to either side; and its caps
+
+-- (0,0), (0,6), (-2,6). Along an axis b = 0, the accumulator goes from a on by 2a, and after 13a it is above 14a: seven parallels. First
+-- edges: left (3,0)-(3,6), right (-3,0)-(-3,6); second: left (0,9)-(-2,9), right (0,3)-(-2,3). The left ones cross at (3,9), the right
+-- ones at (-3,3). Determinant (-2)·6 - 0·0 = -12: Left is the outer side; 12² is not below the dot product 0. (-2,3) is on the left of
+-- x = -3: overlap. The edges end and start where they are.
+abbrev stub : Join
+stub = record { kind = Degenerate Left; ending = cornersOf (pointOf (pos 3) (pos 6)) (pointOf (negsuc 2) (pos 6)); starting = cornersOf (pointOf (pos 0) (pos 9)) (pointOf (pos 0) (pos 3)) }
+
+unfoldable pub shortTurn : Case
+shortTurn = joins (pointOf (pos 0) (pos 0)) (pointOf (pos 0) (pos 6)) (pointOf (negsuc 1) (pos 6)) (pos 7) offset.None stub
+
+-- The filler line is (3,6)-(0,9), its delta (-3,3). Half of it, truncated toward zero, is (-1,1), so that the midpoint is (2,7). The caps
+-- go by way of it: (0,9) to (0,3) where the second line starts, and (3,6) to (-3,6) where the first one ends.
+unfoldable pub oddFiller : Case
+oddFiller =
+    capped stub
+    (Two (line (pos 0) (pos 9) (pos 2) (pos 7)) (line (pos 2) (pos 7) (pos 0) (pos 3)))
+    (Two (line (pos 3) (pos 6) (pos 2) (pos 7)) (line (pos 2) (pos 7) (negsuc 2) (pos 6)))
 
 -- ---- a closed route of two points, (0,0) and (4,0), at width 3: out and back
 
@@ -100,4 +176,4 @@ unfoldable pub outAndBack : Case
 outAndBack = closed (pos 0 ∷ pos 0 ∷ pos 4 ∷ pos 0 ∷ []) (pos 3) (record { start = out; end = back } ∷ record { start = back; end = out } ∷ [])
 
 unfoldable pub worked : List Case
-worked = evenWidth ∷ oddWidth ∷ turnedRound ∷ bevelLeft ∷ bevelRight ∷ degenerate ∷ outAndBack ∷ []
+worked = evenWidth ∷ oddWidth ∷ turnedRound ∷ atThreshold ∷ diagonal ∷ leftOnly ∷ rightOnly ∷ bevelLeft ∷ bevelRight ∷ degenerate ∷ shortTurn ∷ oddFiller ∷ outAndBack ∷ []
