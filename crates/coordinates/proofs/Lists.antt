@@ -15,7 +15,8 @@ use Rattle.whole.specs.Places.{listFrom}
 use Rattle.shapes.specs.Shape.{Near}
 use Rattle.whole.proofs.Laws.{true-within, within-true}
 use Rattle.whole.proofs.Tests.{and-left, and-right}
-use Rattle.coordinates.specs.Points.{pointAt, pointCount, pointsOf}
+use Rattle.shapes.specs.declared.Point.{Point}
+use Rattle.coordinates.specs.Points.{pointAt, pointCount, pointsOf, lastTwo}
 use Rattle.coordinates.specs.Refusal.{isOdd, areWithin, AllWithin}
 
 -- ---- points and numbers
@@ -56,6 +57,12 @@ points-in-turn (x ∷ []) = refl
 points-in-turn (x ∷ y ∷ cs) =
     let n : pointCount (x ∷ y ∷ cs) ≡ suc (pointCount cs) = omega arith in
     rw (n, points-in-turn cs, points-behind x y cs (pointCount cs) 0)
+
+-- the last two of points that are given by their place
+pub last-two : {A : Type 0} (point : ℕ → Point) (f : Point → Point → A) (m k : ℕ) → lastTwo f (point k) (point (suc k)) (listFrom point (suc (suc k)) m) ≡ f (point (k + m)) (point (suc k + m))
+unfolding lastTwo listFrom
+last-two point f zero k = let p : k + 0 ≡ k = omega arith in let q : suc k + 0 ≡ suc k = omega arith in rw (q, p)
+last-two point f (suc m) k = let p : k + suc m ≡ suc k + m = omega arith in let q : suc k + suc m ≡ suc (suc k) + m = omega arith in rw (q, p) (last-two point f m (suc k))
 
 -- ---- the test of all numbers from place i on
 

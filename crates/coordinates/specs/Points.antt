@@ -17,6 +17,11 @@ pointsOf [] = []
 pointsOf (x ∷ []) = []
 pointsOf (x ∷ y ∷ cs) = pointOf x y ∷ pointsOf cs
 
+-- the last two of the points p, q and those that follow
+unfoldable pub lastTwo : {A : Type 0} → (Point → Point → A) → Point → Point → List Point → A
+lastTwo f p q [] = f p q
+lastTwo f p q (r ∷ rs) = lastTwo f q r rs
+
 -- the places round a closed route of n points
 unfoldable pub placeAfter : ℕ → ℕ → ℕ
 placeAfter n i = cond (eqb (i + 1) n) 0 (i + 1)

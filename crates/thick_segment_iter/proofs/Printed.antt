@@ -16,10 +16,10 @@ use Rattle.line_join.specs.declared.Join.{Join}
 use Rattle.line_join.specs.Join.{endOf, joinOf}
 use Rattle.line_join.proofs.Laws.{join-kind-exactly}
 use Rattle.coordinates.specs.Points.{pointAt, pointCount, pointsOf}
-use Rattle.coordinates.proofs.Lists.{points-in-turn}
+use Rattle.coordinates.proofs.Lists.{points-in-turn, last-two}
 use Rattle.route_joins.specs.Joins.{openJoin, segmentsOf, segmentCount, openSegment, openCount}
 use Rattle.route_joins.proofs.Open.{first-join, last-join, inner-join, segment-is}
-use Rattle.thick_segment_iter.specs.Printed.{Iterator, isEnd, pastWindows, movedBy, answered, lastTwo, openSegments}
+use Rattle.thick_segment_iter.specs.Printed.{Iterator, isEnd, pastWindows, movedBy, answered, openSegments}
 
 -- a join of three points is no End, and the join at a route's end is one
 not-end : (k : Kind) → (k ≡ End → ⊥) → isEnd k ≡ false
@@ -97,11 +97,6 @@ module _ (cs : List ℤ) (w : ℤ) where
   from-place (suc zero) k e = before-last (point (suc k) ∷ point (suc (suc k)) ∷ []) k (lit≤ tt) (omega (arith, e))
   from-place (suc (suc left)) k e = by-window left k e (from-place (suc left) (suc k) (omega (arith, e)))
 
-  last-two : {A : Type 0} (f : Point → Point → A) (m k : ℕ) → lastTwo f (point k) (point (suc k)) (listFrom point (suc (suc k)) m) ≡ f (point (k + m)) (point (suc k + m))
-  unfolding lastTwo listFrom
-  last-two f zero k = let p : k + 0 ≡ k = omega arith in let q : suc k + 0 ≡ suc k = omega arith in rw (q, p)
-  last-two f (suc m) k = let p : k + suc m ≡ suc k + m = omega arith in let q : suc k + suc m ≡ suc (suc k) + m = omega arith in rw (q, p) (last-two f m (suc k))
-
   by-count : (m more : ℕ) → m ≡ n → openSegments w (listFrom point 0 m) (m - 1 + more) ≡ listFrom (openSegment cs w) 0 (m - 1)
   unfolding openSegments listFrom
   by-count zero more e = refl
@@ -114,7 +109,7 @@ module _ (cs : List ℤ) (w : ℤ) where
       let less : suc (suc (suc m)) - 1 ≡ suc (suc m) = omega arith in
       let p : n - 2 ≡ 1 + m = omega (arith, e) in
       let q : n - 1 ≡ 2 + m = omega (arith, e) in
-      rw (less, last-two _ m 1, sym (first-join cs w), sym (inner-join cs w 0 (omega (arith, e)))) (rw (p, q) at (from-place (suc m) 0 (omega (arith, e)) more))
+      rw (less, last-two point _ m 1, sym (first-join cs w), sym (inner-join cs w 0 (omega (arith, e)))) (rw (p, q) at (from-place (suc m) 0 (omega (arith, e)) more))
 
   -- from `new` on, `next` answers the walk's segments, and then none for ever
   pub open-equal : (more : ℕ) → openSegments w (pointsOf cs) (openCount cs + more) ≡ listFrom (openSegment cs w) 0 (openCount cs)

@@ -11,6 +11,7 @@ use Rattle.line_join.specs.declared.Kind.the-variants.{Miter, Bevel, Degenerate
 use Rattle.line_join.specs.declared.Join.{Join}
 use Rattle.line_join.specs.Join.{startOf, endOf, joinOf}
 use Rattle.thick_segment.specs.declared.Segment.{Segment}
+use Rattle.coordinates.specs.Points.{lastTwo}
 
 -- what the iterator keeps: the points that the windows left go over, its two joins, and whether it has stopped
 pub record Iterator : Type 0 where
@@ -47,11 +48,6 @@ moved w p q it = movedBy w p q (it .windows) it
 unfoldable pub answered : ℤ → Point → Point → Iterator → ℕ → List Segment
 answered w p q it zero = []
 answered w p q it (suc calls) = cond (it .stop) [] (record { start = it .start; end = it .end } ∷ answered w p q (moved w p q it) calls)
-
--- the last two of the points p, q and those that follow
-unfoldable pub lastTwo : {A : Type 0} → (Point → Point → A) → Point → Point → List Point → A
-lastTwo f p q [] = f p q
-lastTwo f p q (r ∷ rs) = lastTwo f q r rs
 
 -- a route of fewer than two points has no segments; what `calls` of `next` answer from `new` on
 unfoldable pub openSegments : ℤ → List Point → ℕ → List Segment
