@@ -1,13 +1,11 @@
--- Squares, how large a rounded quotient is, tests and their opposites, and tables that follow a rule. Assumes nothing.
-use mathlib.Core.Path.{_≡_, refl, sym, ap, _∙_}
+-- Squares, how large a rounded quotient is, and tests and their opposites. Assumes nothing.
+use mathlib.Core.Path.{_≡_, refl, sym}
 use mathlib.Core.Bool.{Bool, true, false, cond}
-use mathlib.Core.List.{List, [], _∷_}
-use Prim.Native.Nat.{ℕ, zero, suc, _+_, _*_, _<_}
-use native.Mathlib.Nat.{mul-le-mul, le-of-suc-le-suc, div-le-self}
+use Prim.Native.Nat.{ℕ, _+_, _*_, _<_}
+use native.Mathlib.Nat.{mul-le-mul, div-le-self}
 use native.Mathlib.Omega.{arith}
 use borrow.Author.Tests.{ltb-true, leb-false, lt-ltb, lt-leb}
 use lib.IntN.{ℤ, pos, negsuc, natAbs, _+ℤ_, _-ℤ_, _*ℤ_}
-use lib.ListN.{getD}
 use lib.Signed.{ltZ, leZ}
 use Rattle.whole.specs.Number.{Within}
 use Rattle.whole.specs.Rounded.{rounded, half}
@@ -65,15 +63,3 @@ not-le-lt (pos a) (pos b) e = lt-ltb b a (leb-false a b e)
 not-le-lt (pos a) (negsuc b) e = refl
 not-le-lt (negsuc a) (pos b) e = sym e
 not-le-lt (negsuc a) (negsuc b) e = lt-ltb a b (leb-false b a e)
-
--- ---- a table that follows a rule
-
--- f i, f (i + 1), .., n of them
-abbrev pub counted : (ℕ → ℕ) → ℕ → ℕ → List ℕ
-counted f i zero = []
-counted f i (suc n) = f i ∷ counted f (suc i) n
-
-pub getD-counted : (f : ℕ → ℕ) (i n k : ℕ) → k < n → getD (counted f i n) k 0 ≡ f (i + k)
-getD-counted f i zero k h = absurd (omega arith)
-getD-counted f i (suc n) zero h = ap f (omega arith)
-getD-counted f i (suc n) (suc k) h = getD-counted f (suc i) n k (le-of-suc-le-suc h) ∙ ap f (omega arith)
