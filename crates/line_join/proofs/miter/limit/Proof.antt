@@ -12,20 +12,20 @@ use Rattle.line_join.specs.Miter.{miterLimit}
 use Rattle.line_join.proofs.miter.limit.Statement.{statement}
 use Rattle.line_join.proofs.miter.limit.Tie as tie
 
--- twice the width, in its bits
-most : {w : ℤ} → Thin w → Hold (ofZ w64 (pos 2 *ℤ toZ w64 (ofZ w64 w))) (pos 2 *ℤ w) 128
-most h = hold-mul (literal 2 tt) (thin-held h) tt
+-- the width, and twice the width, in their bits
+numbers : {w : ℤ} → Thin w → Hold (ofZ w64 w) w 64 × Hold (ofZ w64 (pos 2 *ℤ toZ w64 (ofZ w64 w))) (pos 2 *ℤ w) 128
+numbers h = (thin-held h, hold-mul (literal 2 tt) (thin-held h) tt)
 
 mul-most : tie.Need-mul-most
 mul-most c = fits-mul (literal 2 tt) (thin-held (c .pre)) tt
 
--- whichever of the two numbers are multiplied, 64 bits hold it: what the product is, `returns` alone says
+-- 64 bits hold the product of any two of them
 mul-result : tie.Need-mul-result
-mul-result c = search (fits-mul, most (c .pre), thin-held (c .pre))
+mul-result c = search (fits-mul, numbers (c .pre))
 
 returns : tie.Need-returns
 unfolding miterLimit
-returns c = rw (toZ-ofZ (mul-result c), most (c .pre) .is) refl
+returns c = rw (toZ-ofZ (mul-result c), toZ-ofZ (mul-most c), thin-held (c .pre) .is) refl
 
 pub limit-spec : {M : Type 1} → statement M
 limit-spec = tie.close (tie.spec mul-most mul-result returns)
