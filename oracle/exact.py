@@ -201,6 +201,10 @@ def parts_of_segment(*numbers):
     return " | ".join(parts)
 
 
+def rows_of_segment(*numbers):
+    return words(*segment(*numbers).drawn_rows())
+
+
 def span_of_segment(*numbers):
     *corners, row = numbers
     found = segment(*corners)
@@ -423,6 +427,7 @@ KINDS = {
     "j": join,
     "f": lines_of_join,
     "k": parts_of_segment,
+    "q": rows_of_segment,
     "r": span_of_segment,
     "m": met_span,
     "u": extended_span,

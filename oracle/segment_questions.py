@@ -1,4 +1,4 @@
-"""The questions of the list `segments`: kinds k, r, m and u.
+"""The questions of the list `segments`: kinds k, q, r, m and u.
 
 `questions` answers pairs (class, question), always the same ones.
 """
@@ -14,7 +14,7 @@ from walks import closed_segments, open_segments
 
 SEED = 40954096
 LIMIT = exact.CORNER_LIMIT
-KINDS = "krmu"
+KINDS = "kqrmu"
 JOIN_KINDS = range(len(joins.KINDS))
 
 # By hand: a line of width 3 and its rows; spans that touch, that do not, and empty ones.
@@ -24,6 +24,7 @@ WORKED = [
         f"k {FLAT}",
         "false | 0 1 3 1 3 -1 0 -1 | 0 -1 4 3 | 4 0 -1 0 1 3 -1 3 1 0 1 3 1 3 -1 0 -1",
     ),
+    (f"q {FLAT}", "-1 1"),
     (f"r {FLAT} -1", "0 4"),
     (f"r {FLAT} 0", "0 4"),
     (f"r {FLAT} 2", "0 0"),
@@ -57,6 +58,7 @@ def ask(kind, segment, *rest):
 
 def asked_of(rng, segment, most_rows):
     yield ask("k", segment)
+    yield ask("q", segment)
     rows = rows_of(segment)
     for row in rows if len(rows) <= most_rows else rng.sample(rows, most_rows):
         yield ask("r", segment, row)
@@ -122,6 +124,7 @@ def segment_positions(rng):
     for numbers in one_changed(base, (LIMIT + 1, -LIMIT - 1)):
         if numbers[0] == base[0] and numbers[9] == base[9]:
             yield exact.words("k", *numbers)
+            yield exact.words("q", *numbers)
             yield exact.words("r", *numbers, LIMIT + 1)
     far = [*base[:-1], FAR[-1]]
     for row in (LIMIT, -LIMIT, LIMIT + 1, -LIMIT - 1, *FAR):

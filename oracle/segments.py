@@ -74,6 +74,11 @@ class Segment(NamedTuple):
         caps = start_cap_lines(self.start) + end_cap_lines(self.end)
         return [*caps, self.right_edge(), self.left_edge()]
 
+    def drawn_rows(self):
+        """The first and the last row of the points that are drawn."""
+        rows = [y for line in self.perimeter() for _, y in points_of(line)]
+        return min(rows), max(rows)
+
     def edges_bounding_box(self):
         """Top left corner and size; of a skeleton the left edge's."""
         edges = self.left_edge()

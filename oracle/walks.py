@@ -83,11 +83,9 @@ def spans_by_row(segment):
 
 
 def rows_of(segments):
-    """From the least to the greatest row of the segments' boxes."""
-    boxes = [segment.edges_bounding_box() for segment in segments]
-    if not boxes:
-        return range(0)
-    return range(min(top for _, top, _, _ in boxes), max(top + high for _, top, _, high in boxes))
+    """From the first to the last row that has a drawn point."""
+    rows = [row for segment in segments for row in segment.drawn_rows()]
+    return range(min(rows), max(rows) + 1) if rows else range(0)
 
 
 def runs_by_row(segments):

@@ -103,11 +103,12 @@ fn answer_kind(kind: &str, numbers: &[i32]) -> String {
             join_words(&LineJoin::from_points(a, b, c, width as u32, stroke_offset(offset)))
         }
         ("f", numbers) => lines_of_join(&join(numbers)),
-        ("k", numbers) => parts_of_segment(join(&numbers[..9]), join(&numbers[9..])),
-        ("r", &[ref joins @ .., row]) => {
-            let segment = ThickSegment::new(join(&joins[..9]), join(&joins[9..]));
-            span_words(&segment.intersection(row))
+        ("k", numbers) => parts_of_segment(&segment(numbers)),
+        ("q", numbers) => {
+            let (first, last) = drawn_rows(&segment(numbers));
+            format!("{first} {last}")
         }
+        ("r", &[ref joins @ .., row]) => span_words(&segment(joins).intersection(row)),
         ("m", &[ax, ay, bx, by, row, start, end]) => {
             let mut scanline = Scanline::new(row, start..end);
             scanline.bresenham_intersection(&line_of(ax, ay, bx, by));
@@ -272,23 +273,37 @@ fn span_words(scanline: &Scanline) -> String {
     format!("{} {}", scanline.x.start, scanline.x.end)
 }
 
+/// The segment between two joins.
+fn segment(joins: &[i32]) -> ThickSegment {
+    ThickSegment::new(join(&joins[..9]), join(&joins[9..]))
+}
+
 /// The perimeter has no function of its own in the printed file: here are the lines that
 /// `ThickSegment::intersection` meets with a row, in its order.
-fn parts_of_segment(start: LineJoin, end: LineJoin) -> String {
-    let segment = ThickSegment::new(start, end);
-    let (right, left) = thick_segment::door::edges(&segment);
-    let perimeter = if segment.is_skeleton() {
-        vec![right]
-    } else {
-        let (start_line, start_second) = start.start_cap_lines();
-        let (end_line, end_second) = end.end_cap_lines();
-        iter::once(start_line)
-            .chain(start_second)
-            .chain([end_line])
-            .chain(end_second)
-            .chain([right, left])
-            .collect()
-    };
+fn perimeter(segment: &ThickSegment) -> Vec<Line> {
+    let (right, left) = thick_segment::door::edges(segment);
+    if segment.is_skeleton() {
+        return vec![right];
+    }
+    let [start, end] = thick_segment::door::joins(segment);
+    let (start_line, start_second) = start.start_cap_lines();
+    let (end_line, end_second) = end.end_cap_lines();
+    iter::once(start_line)
+        .chain(start_second)
+        .chain([end_line])
+        .chain(end_second)
+        .chain([right, left])
+        .collect()
+}
+
+/// The least and the greatest row of the ends of the lines that are drawn; such lines there always are.
+pub fn drawn_rows(segment: &ThickSegment) -> (i32, i32) {
+    let rows = || perimeter(segment).into_iter().flat_map(|line| [line.start.y, line.end.y]);
+    (rows().min().unwrap(), rows().max().unwrap())
+}
+
+fn parts_of_segment(segment: &ThickSegment) -> String {
+    let (right, left) = thick_segment::door::edges(segment);
     let corner = segment.edges_bounding_box().top_left;
     let size = segment.edges_bounding_box().size;
     format!(
@@ -300,7 +315,7 @@ fn parts_of_segment(start: LineJoin, end: LineJoin) -> String {
         corner.y,
         size.width,
         size.height,
-        counted(perimeter.iter().map(line_words))
+        counted(perimeter(segment).iter().map(line_words))
     )
 }
 

@@ -2,6 +2,7 @@
 //! board are written here; the segments and their spans are the printed Rust's.
 
 use crate::{
+    drawn_rows,
     geometry::Point,
     primitives::common::{
         thick_segment, ClosedThickSegmentIter, StrokeOffset, ThickSegment, ThickSegmentIter,
@@ -87,9 +88,9 @@ fn lit(route: &Route) -> Result<Vec<Lit>, u8> {
     let segments = segments(points, (*width).into(), *closed);
     refuse(5, segments.iter().any(is_far))?;
 
-    let boxes = || segments.iter().map(ThickSegment::edges_bounding_box);
-    let first = boxes().map(|found| found.top_left.y).min().unwrap_or(0);
-    let end = boxes().map(|found| found.top_left.y + found.size.height as i32).max().unwrap_or(0);
+    let drawn = || segments.iter().map(drawn_rows);
+    let first = drawn().map(|(first, _)| first).min().unwrap_or(0);
+    let end = drawn().map(|(_, last)| last + 1).max().unwrap_or(0);
     let mut found = Vec::new();
     for row in first..end {
         let mut runs = Vec::new();

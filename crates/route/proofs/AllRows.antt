@@ -1,5 +1,5 @@
--- A route as a whole: its rows go from the least to the greatest row of the boxes of the walk's segments, and it is refused as they are, then
--- with 8 exactly when one of these rows has no room. Assumes nothing.
+-- A route as a whole: its rows go from the first to the last row of the lines that are drawn of the walk's segments, and it is refused as they
+-- are, then with 8 exactly when one of these rows has no room. Assumes nothing.
 use mathlib.Core.Path.{_≡_, refl, sym, ap, _∙_}
 use mathlib.Core.Logic.{_↔_, _≢_, _⊎_, inl, ⊎-elim}
 use mathlib.Core.Bool.{Bool, true, false, cond}
@@ -13,13 +13,13 @@ use lib.IntN.{ℤ, natAbs, _-ℤ_}
 use Rattle.whole.specs.Places.{listFrom}
 use Rattle.shapes.specs.declared.limits.Limits.{Limits}
 use Rattle.shapes.specs.Refusals.{orElse}
-use Rattle.thick_segment.specs.declared.Rectangle.{Rectangle}
-use Rattle.thick_segment.specs.Segments.{boundingBox}
+use Rattle.thick_segment.specs.declared.Rows.{Rows}
+use Rattle.thick_segment.specs.Rows.{drawnRows}
 use Rattle.route_joins.specs.Joins.{segmentAt, segmentCount, segmentsOf, joinCount}
 use Rattle.route.specs.declared.Joins.{Joins}
 use Rattle.route.specs.declared.RowRange.{RowRange}
 use Rattle.route.specs.Joined.{joinsOf, segmentsIn}
-use Rattle.route.specs.Rows.{withBox, withBoxes, boxIn, noRows, rowsIn, RowsNear, rowCount, rowAt, firstOf, roomAt, rowsRefusal}
+use Rattle.route.specs.Rows.{withRows, withAll, drawnIn, noRows, rowsIn, RowsNear, rowCount, rowAt, firstOf, roomAt, rowsRefusal}
 use Rattle.route.specs.Words.{SomeFull}
 use Rattle.route.specs.Answers.{drawRefusal, rowsAnswer, wholeRefusal, refusalOn, rowRefusal}
 use Rattle.route.proofs.Bounds.{Bounds, bounds}
@@ -33,12 +33,12 @@ use Rattle.route.proofs.Refused.{draw-none, draw-most, on-eight, row-ei
 
 -- ---- the rows of a route
 
-boxes-refusal : (rows : RowRange) (boxes : List Rectangle) → rows .refusal ≡ 0 → withBoxes rows boxes .refusal ≡ 0
-unfolding withBoxes withBox
-boxes-refusal rows [] e = e
-boxes-refusal rows (box ∷ boxes) e = boxes-refusal (withBox rows box) boxes (by (rows .some) refl)
+all-refusal : (range : RowRange) (rs : List Rows) → range .refusal ≡ 0 → withAll range rs .refusal ≡ 0
+unfolding withAll withRows
+all-refusal range [] e = e
+all-refusal range (r ∷ rs) e = all-refusal (withRows range r) rs (by (range .some) refl)
   where
-    by : (t : Bool) → rows .some ≡ t → withBox rows box .refusal ≡ 0
+    by : (t : Bool) → range .some ≡ t → withRows range r .refusal ≡ 0
     by true s = rw s
     by false s = rw s
 
@@ -49,32 +49,32 @@ module _ (limits : Limits) (closed : Bool) (cs : List ℤ) (w : ℤ) where
   abbrev route : Joins
   route = joinsOf (limits .corner) closed cs w
 
-  -- the boxes of the walk's segments
-  abbrev pub box : ℕ → Rectangle
-  box i = boundingBox (segmentAt closed cs w i)
+  -- the rows of the walk's segments
+  abbrev pub drawn : ℕ → Rows
+  drawn i = drawnRows (segmentAt closed cs w i)
 
   answer-is : d ≡ 0 → rowsAnswer limits closed cs w ≡ rowsIn route
   unfolding rowsAnswer
   answer-is e = rw (eq-eqb d 0 e)
 
-  walk-boxes : d ≡ 0 → rowsAnswer limits closed cs w ≡ withBoxes (noRows 0) (listFrom box 0 (segmentCount closed cs))
+  walk-rows : d ≡ 0 → rowsAnswer limits closed cs w ≡ withAll (noRows 0) (listFrom drawn 0 (segmentCount closed cs))
   unfolding rowsIn joinsOf
-  walk-boxes e =
+  walk-rows e =
       answer-is e
-      ∙ ap (withBoxes (noRows 0)) (list-same (boxIn route) box (segmentsOf closed (joinCount cs)) (λ i h. ap boundingBox (segment-is (limits .corner) closed cs w h)))
-      ∙ ap (λ m. withBoxes (noRows 0) (listFrom box 0 m)) (segments-all (draw-none limits closed cs w .0 e .0))
+      ∙ ap (withAll (noRows 0)) (list-same (drawnIn route) drawn (segmentsOf closed (joinCount cs)) (λ i h. ap drawnRows (segment-is (limits .corner) closed cs w h)))
+      ∙ ap (λ m. withAll (noRows 0) (listFrom drawn 0 m)) (segments-all (draw-none limits closed cs w .0 e .0))
 
-  pub rows-bounds : d ≡ 0 → 0 < segmentCount closed cs → Bounds box (segmentCount closed cs) (rowsAnswer limits closed cs w)
-  rows-bounds e some = rw (walk-boxes e) (bounds box (segmentCount closed cs) some)
+  pub rows-bounds : d ≡ 0 → 0 < segmentCount closed cs → Bounds drawn (segmentCount closed cs) (rowsAnswer limits closed cs w)
+  rows-bounds e some = rw (walk-rows e) (bounds drawn (segmentCount closed cs) some)
 
   -- a route without segments has no rows
   pub rows-none-of : d ≡ 0 → segmentCount closed cs ≡ 0 → rowsAnswer limits closed cs w ≡ noRows 0
-  unfolding withBoxes listFrom
-  rows-none-of e none = walk-boxes e ∙ ap (λ m. withBoxes (noRows 0) (listFrom box 0 m)) none
+  unfolding withAll listFrom
+  rows-none-of e none = walk-rows e ∙ ap (λ m. withAll (noRows 0) (listFrom drawn 0 m)) none
 
   rows-chosen : (t : Bool) → eqb d 0 ≡ t → cond t (rowsIn route) (noRows d) .refusal ≡ d
   unfolding rowsIn
-  rows-chosen true e = boxes-refusal (noRows 0) (listFrom (boxIn route) 0 (segmentsIn route)) refl ∙ sym (eqb-true d 0 e)
+  rows-chosen true e = all-refusal (noRows 0) (listFrom (drawnIn route) 0 (segmentsIn route)) refl ∙ sym (eqb-true d 0 e)
   rows-chosen false e = refl
 
   pub rows-refusal : rowsAnswer limits closed cs w .refusal ≡ d
@@ -187,16 +187,15 @@ module _ (limits : Limits) (closed : Bool) (cs : List ℤ) (w : ℤ) where
         let is = answer-is limits closed cs w e in
         record {
           row = rowAt rows (f .at);
-          some = ap (λ r. r .some) is ∙ some;
-          from = rw is (b .0);
-          upto = rw is (b .1);
+          inside = record { some = ap (λ r. r .some) is ∙ some; from = rw is (b .0); upto = rw is (b .1) };
           full = row-is (f .inside) .0 (rw (zero-add (f .at)) at (f .is));
         }
 
     row-full : SomeFull limits closed cs w → Found room 0 (rowCount rows) 8
     row-full s =
         let is = answer-is limits closed cs w e in
-        let p = place-of near (ap (λ r. r .some) (sym is) ∙ s .some) (rw is at (s .from)) (rw is at (s .upto)) in
+        let h = s .inside in
+        let p = place-of near (ap (λ r. r .some) (sym is) ∙ h .some) (rw is at (h .from)) (rw is at (h .upto)) in
         let i = natAbs (s .row -ℤ rows .first) in
         record { at = i; inside = p .0; is = rw (zero-add i) (row-is (p .0) .1 (ap (rowRefusal limits closed cs w) (p .1) ∙ s .full)) }
 

@@ -15,6 +15,7 @@ use Rattle.whole.proofs.Places.{list-length, list-at}
 use Rattle.shapes.specs.Limits.{routePoints}
 use Rattle.line_join.specs.declared.Join.{Join}
 use Rattle.line_join.proofs.Room.{join-near-more}
+use Rattle.thick_segment.specs.declared.Segment.{Segment}
 use Rattle.thick_segment.specs.Segments.{SegmentNear}
 use Rattle.coordinates.specs.Points.{pointCount}
 use Rattle.coordinates.specs.Refusal.{Accepted}
@@ -28,6 +29,12 @@ use Rattle.route.specs.Joined.{noJoin, keptIn, joinsOf, Kept, segmentsIn
 -- both joins of a segment are among those that are kept
 pub ends-in-array : {k i : ℕ} {route : Joins} → Kept k route → i < segmentsIn route → (i < routePoints) × (endPlace (route .closed) (route .count) i < routePoints)
 ends-in-array {route} kept h = let p = place-inside (route .closed) h in let few = kept .few in (omega (arith, p .0, few), omega (arith, p .1, few))
+
+-- the segment between two joins of the array, the second at the place where it ends
+pub segment-made : (route : Joins) (i : ℕ) {next : ℕ} → next ≡ endPlace (route .closed) (route .count) i
+    → _≡_ {A = Segment} (record { start = getD (route .joins) i noJoin; end = getD (route .joins) next noJoin }) (segmentIn route i)
+unfolding segmentIn
+segment-made route i e = rw e
 
 pub segment-near : {k i : ℕ} {route : Joins} → Kept k route → i < segmentsIn route → SegmentNear k (segmentIn route i)
 unfolding segmentIn

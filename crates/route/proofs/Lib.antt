@@ -3,6 +3,7 @@ pub mod Bounds
 pub mod Chains
 pub mod Drawn
 pub mod Kept
+pub mod LitRows
 pub mod Offers
 pub mod Ranges
 pub mod Refused

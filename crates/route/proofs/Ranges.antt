@@ -12,75 +12,49 @@ use Rattle.whole.specs.Places.{listFrom}
 use Rattle.whole.proofs.Linear.{linear, le-to, sum, diff, abs-parts, abs-le, not-negative, none-below}
 use Rattle.whole.proofs.Spans.{within-lesser, within-greater}
 use Rattle.whole.proofs.Laws.{lesser-le, le-greater}
-use Rattle.shapes.specs.declared.Line.{Line}
-use Rattle.thick_segment.specs.declared.Segment.{Segment}
-use Rattle.thick_segment.specs.declared.Rectangle.{Rectangle}
-use Rattle.thick_segment.specs.Segments.{isSkeleton, edgesOf, least, most, boxOf, union, boundingBox}
-use Rattle.thick_segment.specs.Words.{RectangleNear}
-use Rattle.thick_segment.proofs.Laws.{box-near}
+use Rattle.thick_segment.specs.declared.Rows.{Rows}
+use Rattle.thick_segment.specs.Rows.{rowsFrom, around}
+use Rattle.thick_segment.specs.Words.{RowsNear as SegmentRowsNear}
+use Rattle.thick_segment.proofs.Lit.{rows-near as drawn-near, rows-ordered}
 use Rattle.route.specs.declared.Joins.{Joins}
 use Rattle.route.specs.declared.RowRange.{RowRange}
 use Rattle.route.specs.Joined.{Kept, segmentsIn, segmentIn}
-use Rattle.route.specs.Rows.{withBox, withBoxes, boxIn, rowsIn, RowsNear, rowCount, rowAt}
+use Rattle.route.specs.Rows.{rangeOf, withRows, withAll, drawnIn, rowsIn, RowsNear, rowCount, rowAt}
 use Rattle.route.proofs.Kept.{segment-near}
 
--- ---- a segment's box
+-- ---- rows widened by those of segments
 
-abbrev Ordered : Rectangle → Type 0
-Ordered box = box .first .y ≤ℤ box .last .y
-
-line-ordered : (l : Line) → Ordered (boxOf l)
-unfolding boxOf least most
-line-ordered l = omega (linear, lesser-le (l .start .y) (l .end .y) .0, le-greater (l .start .y) (l .end .y) .0)
-
-union-ordered : (a b : Rectangle) → Ordered a → Ordered (union a b)
-unfolding union least most
-union-ordered a b h = omega (linear, lesser-le (a .first .y) (b .first .y) .0, le-greater (a .last .y) (b .last .y) .0, h)
-
-box-ordered : (s : Segment) → Ordered (boundingBox s)
-unfolding boundingBox
-box-ordered s = by (isSkeleton s)
-  where
-    by : (t : Bool) → Ordered (cond t (boxOf (edgesOf s .left)) (union (boxOf (edgesOf s .right)) (boxOf (edgesOf s .left))))
-    by true = line-ordered (edgesOf s .left)
-    by false = union-ordered (boxOf (edgesOf s .right)) (boxOf (edgesOf s .left)) (line-ordered (edgesOf s .right))
-
--- ---- rows widened by boxes
-
--- a box that rows may be widened by
-record Fits (k : ℕ) (box : Rectangle) : Type 0 where
-  near : RectangleNear k box
-  ordered : Ordered box
+-- rows that others may be widened by
+record Fits (k : ℕ) (r : Rows) : Type 0 where
+  near : SegmentRowsNear k r
+  ordered : r .first ≤ℤ r .last
 
 module _ {k : ℕ} where
-  with-box-near : {rows : RowRange} {box : Rectangle} → RowsNear k rows → Fits k box → RowsNear k (withBox rows box)
-  unfolding withBox
-  with-box-near {rows} {box} near fits = by (rows .some)
+  with-near : {range : RowRange} {r : Rows} → RowsNear k range → Fits k r → RowsNear k (withRows range r)
+  unfolding withRows around
+  with-near {range} {r} near fits = by (range .some)
     where
-      by : (t : Bool)
-          → RowsNear k
-          (cond t (record { refusal = 0; some = true; first = lesser (rows .first) (box .first .y); last = greater (rows .last) (box .last .y) })
-          (record { refusal = 0; some = true; first = box .first .y; last = box .last .y }))
+      by : (t : Bool) → RowsNear k (cond t (rangeOf (around (rowsFrom (range .first) (range .last)) r)) (rangeOf r))
       by true =
           record {
-            ordered = omega (linear, lesser-le (rows .first) (box .first .y) .0, le-greater (rows .last) (box .last .y) .0, near .ordered);
-            first-near = within-lesser (near .first-near) (fits .near .first-near .y-near);
-            last-near = within-greater (near .last-near) (fits .near .last-near .y-near);
+            ordered = omega (linear, lesser-le (range .first) (r .first) .0, le-greater (range .last) (r .last) .0, near .ordered);
+            first-near = within-lesser (near .first-near) (fits .near .first-near);
+            last-near = within-greater (near .last-near) (fits .near .last-near);
           }
-      by false = record { ordered = fits .ordered; first-near = fits .near .first-near .y-near; last-near = fits .near .last-near .y-near }
+      by false = record { ordered = fits .ordered; first-near = fits .near .first-near; last-near = fits .near .last-near }
 
-  boxes-near : (box : ℕ → Rectangle) (i left : ℕ) {rows : RowRange} → ((d : ℕ) → d < left → Fits k (box (i + d))) → RowsNear k rows → RowsNear k (withBoxes rows (listFrom box i left))
-  unfolding withBoxes listFrom
-  boxes-near box i zero all near = near
-  boxes-near box i (suc left) all near =
+  all-near : (drawn : ℕ → Rows) (i left : ℕ) {range : RowRange} → ((d : ℕ) → d < left → Fits k (drawn (i + d))) → RowsNear k range → RowsNear k (withAll range (listFrom drawn i left))
+  unfolding withAll listFrom
+  all-near drawn i zero all near = near
+  all-near drawn i (suc left) all near =
       let here : i + 0 ≡ i = omega arith in
-      boxes-near box (suc i) left (λ d h. let on : suc i + d ≡ i + suc d = omega arith in rw on (all (suc d) (omega arith))) (with-box-near near (rw here at (all 0 (omega arith))))
+      all-near drawn (suc i) left (λ d h. let on : suc i + d ≡ i + suc d = omega arith in rw on (all (suc d) (omega arith))) (with-near near (rw here at (all 0 (omega arith))))
 
   pub rows-near : {route : Joins} → Kept k route → RowsNear k (rowsIn route)
   unfolding rowsIn
   rows-near {route} kept =
-      boxes-near (boxIn route) 0 (segmentsIn route)
-      (λ i h. rw (zero-add i) (record { near = box-near (segmentIn route i) (segment-near kept h); ordered = box-ordered (segmentIn route i) }))
+      all-near (drawnIn route) 0 (segmentsIn route)
+      (λ i h. rw (zero-add i) (record { near = drawn-near (segmentIn route i) (segment-near kept h); ordered = rows-ordered (segmentIn route i) }))
       (record { ordered = omega linear; first-near = record { bound = omega arith }; last-near = record { bound = omega arith } })
 
 -- ---- the rows between

@@ -1,17 +1,18 @@
--- 01, "The board": "a route's row offers the span of each segment in walk order to a fresh board", and the rows of a route "go from the
--- least to the greatest row in the union of its segments' `edges_bounding_box`".
+-- 01, "The board": "a route's row offers the span of each segment in walk order to a fresh board". 02, K8: the rows of a route are taken
+-- "from the lines that are drawn".
 use mathlib.Core.Bool.{true, false, cond}
 use mathlib.Core.List.{List, [], _∷_}
 use Prim.Native.Nat.{ℕ}
 use lib.Dec.{eqb}
 use lib.IntN.{ℤ, pos, natAbs, _+ℤ_, _-ℤ_}
 use lib.Signed.{_≤ℤ_}
-use Rattle.whole.specs.Number.{Within, lesser, greater}
+use Rattle.whole.specs.Number.{Within}
 use Rattle.whole.specs.Places.{listFrom}
 use Rattle.shapes.specs.declared.Span.{Span}
 use Rattle.shapes.specs.Refusals.{orElse}
-use Rattle.thick_segment.specs.declared.Rectangle.{Rectangle}
-use Rattle.thick_segment.specs.Segments.{spanOn, boundingBox}
+use Rattle.thick_segment.specs.declared.Rows.{Rows}
+use Rattle.thick_segment.specs.Segments.{spanOn}
+use Rattle.thick_segment.specs.Rows.{rowsFrom, around, drawnRows}
 use Rattle.board.specs.declared.Board.{Board}
 use Rattle.board.specs.declared.Answer.{Answer}
 use Rattle.board.specs.Boards.{boardOf, answerOf, added}
@@ -34,25 +35,25 @@ boardOn route row = offerAll (boardOf row []) (listFrom (spanIn route row) 0 (se
 
 -- ---- the rows
 
--- rows widened by those of a box
-unfoldable pub withBox : RowRange → Rectangle → RowRange
-withBox rows box =
-    cond (rows .some)
-    (record { refusal = 0; some = true; first = lesser (rows .first) (box .first .y); last = greater (rows .last) (box .last .y) })
-    (record { refusal = 0; some = true; first = box .first .y; last = box .last .y })
-
 abbrev pub noRows : ℕ → RowRange
 noRows n = record { refusal = n; some = false; first = pos 0; last = pos 0 }
 
-unfoldable pub withBoxes : RowRange → List Rectangle → RowRange
-withBoxes rows [] = rows
-withBoxes rows (box ∷ boxes) = withBoxes (withBox rows box) boxes
+abbrev pub rangeOf : Rows → RowRange
+rangeOf r = record { refusal = 0; some = true; first = r .first; last = r .last }
 
-abbrev pub boxIn : Joins → ℕ → Rectangle
-boxIn route k = boundingBox (segmentIn route k)
+-- rows widened by those of one segment more, and of several
+unfoldable pub withRows : RowRange → Rows → RowRange
+withRows range r = cond (range .some) (rangeOf (around (rowsFrom (range .first) (range .last)) r)) (rangeOf r)
+
+unfoldable pub withAll : RowRange → List Rows → RowRange
+withAll range [] = range
+withAll range (r ∷ rs) = withAll (withRows range r) rs
+
+abbrev pub drawnIn : Joins → ℕ → Rows
+drawnIn route k = drawnRows (segmentIn route k)
 
 unfoldable pub rowsIn : Joins → RowRange
-rowsIn route = withBoxes (noRows 0) (listFrom (boxIn route) 0 (segmentsIn route))
+rowsIn route = withAll (noRows 0) (listFrom (drawnIn route) 0 (segmentsIn route))
 
 -- what a loop over rows asks
 pub record RowsNear (k : ℕ) (rows : RowRange) : Type 0 where

@@ -1,9 +1,9 @@
 -- What 01 says of a route's row in words: the spans of its segments in walk order, when they need more than 32 runs on the way, and what
--- a listing tells of them.
+-- a listing tells of them; and which rows are lit.
 use mathlib.Core.Path.{_≡_}
 use mathlib.Core.Bool.{Bool, true}
 use mathlib.Core.List.{List, [], _∷_, _++_}
-use Prim.Native.Nat.{_*_, _<_}
+use Prim.Native.Nat.{ℕ, _*_, _<_}
 use lib.IntN.{ℤ, pos}
 use lib.ListN.{length, drop}
 use lib.Signed.{_≤ℤ_}
@@ -12,10 +12,12 @@ use Rattle.shapes.specs.Limits.{boardRuns}
 use Rattle.shapes.specs.declared.limits.Limits.{Limits}
 use Rattle.shapes.specs.declared.Span.{Span}
 use Rattle.thick_segment.specs.Segments.{spanOn}
+use Rattle.thick_segment.specs.Words.{drawnPoints, Lit}
 use Rattle.board.specs.declared.Run.{Run}
 use Rattle.board.specs.Runs.{edge, Ascending}
 use Rattle.board_laws.specs.Histories.{Event, offers, covered, Lights, runsIn, columns}
 use Rattle.route_joins.specs.Joins.{segmentAt, segmentCount}
+use Rattle.route.specs.declared.RowRange.{RowRange}
 use Rattle.route.specs.Answers.{rowsAnswer, rowRefusal, rowAnswer, rowTo}
 
 -- the span of each segment on a row, in walk order
@@ -45,10 +47,22 @@ pub record RowTold (limits : Limits) (closed : Bool) (cs : List ℤ) (w row : �
   pub beyond : drop (2 * rowAnswer limits closed cs w row (length out) .count) (rowTo limits closed cs w row out) ≡ drop (2 * rowAnswer limits closed cs w row (length out) .count) out
   pub pixels : rowAnswer limits closed cs w row (length out) .total ≡ pos (columns (limits .corner) (covered (spansOn closed cs w row)))
 
--- one of the rows of a route has no room
+-- ---- the rows of a route
+
+-- a row is one of the rows
+pub record Inside (rows : RowRange) (row : ℤ) : Type 0 where
+  pub some : rows .some ≡ true
+  pub from : rows .first ≤ℤ row
+  pub upto : row ≤ℤ rows .last
+
+-- a line that is drawn of some segment of the walk has a point on the row
+pub record Drawn (closed : Bool) (cs : List ℤ) (w row : ℤ) : Type 0 where
+  pub place : ℕ
+  pub placed : place < segmentCount closed cs
+  pub lit : Lit (drawnPoints (segmentAt closed cs w place)) row
+
+-- one of the rows has no room
 pub record SomeFull (limits : Limits) (closed : Bool) (cs : List ℤ) (w : ℤ) : Type 0 where
   pub row : ℤ
-  pub some : rowsAnswer limits closed cs w .some ≡ true
-  pub from : rowsAnswer limits closed cs w .first ≤ℤ row
-  pub upto : row ≤ℤ rowsAnswer limits closed cs w .last
+  pub inside : Inside (rowsAnswer limits closed cs w) row
   pub full : rowRefusal limits closed cs w row ≡ 8

@@ -7,7 +7,7 @@ ghost use Rattle.shapes.specs.Strokes.{Thin};
 ghost use Rattle.coordinates.specs.Points.{pointCount};
 ghost use Rattle.coordinates.specs.Refusal.{AllWithin};
 ghost use Rattle.route.specs.Joined.{noJoin, Kept, joinsOf};
-ghost use Rattle.route.specs.Rows.{boardOn, withBox, rowsIn, RowsNear, rowCount, rowAt, rowsRefusal};
+ghost use Rattle.route.specs.Rows.{boardOn, withRows, rowsIn, RowsNear, rowCount, rowAt, rowsRefusal};
 ghost use Rattle.route.specs.Answers.{noListing, noJoins, preparedOf, answerOn, listOn};
 use crate::Joins;
 use crate::Listing;
@@ -32,13 +32,12 @@ use shapes::limits::Limits;
 use shapes::refusals::CORNER;
 use shapes::refusals::ROW;
 use shapes::spans::is_empty;
-use thick_segment::Rectangle;
+use thick_segment::Rows;
 use thick_segment::Segment;
-use thick_segment::inner::edges_bounding_box;
+use thick_segment::inner::around;
+use thick_segment::inner::drawn_rows;
 use thick_segment::inner::span;
 use whole::inner::both;
-use whole::inner::greater;
-use whole::inner::lesser;
 use whole::inner::within;
 
 /// What stands in an array of joins beyond the joins.
@@ -178,29 +177,32 @@ pub fn row_of(route: Joins, row: i64, limit: u32, out: &mut [i64]) -> Listing
     refused(ROW)
 }
 
-/// The rows with those of a box as well.
-fn with_box(rows: RowRange, rectangle: Rectangle) -> RowRange
-    ensures { λ r. ⌜ r ≡ withBox rows rectangle ⌝ }
+/// The rows of a route so far, with those of one more segment.
+fn with_rows(range: RowRange, rows: Rows) -> RowRange
+    ensures { λ r. ⌜ r ≡ withRows range rows ⌝ }
 {
-    let first = rectangle.first.y;
-    let last = rectangle.last.y;
-    if rows.some {
+    if range.some {
+        let before = Rows {
+            first: range.first,
+            last: range.last,
+        };
+        let wide = around(before, rows);
         return RowRange {
             refusal: 0,
             some: true,
-            first: lesser(rows.first, first),
-            last: greater(rows.last, last),
+            first: wide.first,
+            last: wide.last,
         };
     }
     RowRange {
         refusal: 0,
         some: true,
-        first,
-        last,
+        first: rows.first,
+        last: rows.last,
     }
 }
 
-/// The rows of a route: the least and the greatest of its segments' bounding boxes.
+/// The rows of a route: from the first to the last row of the lines that are drawn of its segments.
 pub fn rows_of(route: Joins) -> RowRange
     requires { ⌜ Kept lineLimit route ⌝ }
     ensures { λ r. ⌜ r ≡ rowsIn route ⌝ }
@@ -219,7 +221,7 @@ pub fn rows_of(route: Joins) -> RowRange
         let next = end_place(count, closed, k);
         let start = route.joins[k];
         let end = route.joins[next];
-        rows = with_box(rows, edges_bounding_box(Segment { start, end }));
+        rows = with_rows(rows, drawn_rows(Segment { start, end }));
         k += 1;
     }
     rows

@@ -45,9 +45,9 @@ pub struct Listing {
     pub total: i64,
 }
 
-/// The rows of a route: the least and the greatest of its segments' bounding boxes; none where it has no segments. Refused with 1
-/// for an odd number of coordinates, 2 for more than 256 points or a closed route of one, 3 for a width outside 0 to 64, 4 for a
-/// coordinate beyond 511, 5 for a join with a corner beyond 4,095.
+/// The rows of a route: from the first to the last row of the lines that are drawn, so that both are lit and no row outside them is;
+/// none where it has no segments. Refused with 1 for an odd number of coordinates, 2 for more than 256 points or a closed route of
+/// one, 3 for a width outside 0 to 64, 4 for a coordinate beyond 511, 5 for a join with a corner beyond 4,095.
 pub fn rows(coordinates: &[i64], width: i64, closed: bool) -> RowRange
     ensures { λ r. ⌜ r ≡ rowsAnswer panelLimits closed (now (coordinates .entry)) width ⌝ }
 {

@@ -1,6 +1,6 @@
 -- What the entries answer: inside the limit what is asked, else the refusal with 0 in every other field; and what 01 says of the
 -- answers that are no refusal. Assumes nothing.
-use mathlib.Core.Path.{_≡_, refl, sym, _∙_}
+use mathlib.Core.Path.{_≡_, refl, sym, ap, _∙_}
 use mathlib.Core.Logic.{_↔_}
 use mathlib.Core.Bool.{Bool, true, false}
 use mathlib.Core.List.{[]}
@@ -12,15 +12,23 @@ use lib.IntN.{ℤ, pos}
 use Rattle.whole.specs.Number.{Within}
 use Rattle.whole.proofs.Linear.{linear}
 use Rattle.whole.proofs.Spans.{within-low, within-high, within-of}
-use Rattle.whole.proofs.Tests.{eqb-iff, Chosen, chosen, chosen-exactly}
+use Rattle.whole.proofs.Tests.{clash, eqb-iff, Chosen, chosen, chosen-exactly}
 use Rattle.scanline.specs.Spans.{newSpan}
 use Rattle.shapes.specs.Spans.{SpanSound}
 use Rattle.thick_segment.specs.declared.Segment.{Segment}
 use Rattle.thick_segment.specs.Segments.{SegmentNear, isSegmentNear, isSkeleton, edgesOf, boundingBox, rowsOf, perimeterOf, countOf, spanOn}
-use Rattle.thick_segment.specs.Words.{HasRow}
-use Rattle.thick_segment.specs.Answers.{noEdges, noBox, spanned, skeletonAnswer, edgesAnswer, boxAnswer, perimeterAnswer, countAnswer, segmentRefusal, spanAnswer}
+use Rattle.thick_segment.specs.Rows.{rowsFrom, boxRows, drawnRows}
+use Rattle.thick_segment.specs.Words.{HasRow, RowsNear}
+use Rattle.thick_segment.specs.declared.Rows.{Rows}
+use Rattle.thick_segment.specs.Answers.{noEdges, noBox, spanned, skeletonAnswer, edgesAnswer, boxAnswer, perimeterAnswer, countAnswer, rowsAnswer, segmentRefusal, spanAnswer}
 use Rattle.thick_segment.proofs.Refused.{segment-near-iff, segment-none}
 use Rattle.thick_segment.proofs.Laws.{span-sound, box-near}
+use Rattle.thick_segment.proofs.Lit.{rows-near}
+
+-- what lies between two rows within the limit is within it
+rows-within : {k : ℕ} {r : Rows} {y : ℤ} → RowsNear k r → HasRow r y → Within y k
+rows-within near row =
+    within-of (omega (linear, within-low (near .first-near), row .from)) (omega (linear, within-high (near .last-near), row .to))
 
 module _ (k : ℕ) (s : Segment) where
   -- ---- the answers, and 5 exactly when a join has a corner beyond the limit
@@ -58,19 +66,30 @@ module _ (k : ℕ) (s : Segment) where
   unfolding perimeterAnswer
   perimeter-chosen = chosen (isSegmentNear k s) _ _ (segment-near-iff k s)
 
-  -- ---- every row of an accepted segment's box is within the rows
+  pub rows-chosen : Chosen (SegmentNear k s) (rowsAnswer k s) (record { refusal = 0; rows = drawnRows s }) (record { refusal = 5; rows = rowsFrom (pos 0) (pos 0) })
+  unfolding rowsAnswer
+  rows-chosen = chosen (isSegmentNear k s) _ _ (segment-near-iff k s)
 
-  box-accepted : (t : Bool) → isSegmentNear k s ≡ t → boxAnswer k s .refusal ≡ 0 → SegmentNear k s
-  unfolding boxAnswer
-  box-accepted true e h = segment-near-iff k s .0 e
-  box-accepted false e h = let five : _≡_ {A = ℕ} 5 0 = rw e at h in absurd (omega arith)
+  pub rows-refused : (rowsAnswer k s .refusal ≡ 5) ↔ (SegmentNear k s → ⊥)
+  rows-refused = chosen-exactly (λ v. v .refusal) refl refl (lit< tt) rows-chosen
 
-  pub box-rows : boxAnswer k s .refusal ≡ 0 → (y : ℤ) → HasRow (boxAnswer k s .rectangle) y → Within y k
+  -- ---- every row of an accepted segment's box, and of its drawn lines, is within the rows
+
+  accepted : {A : Type 0} {x a b : A} (number : A → ℕ) → Chosen (SegmentNear k s) x a b → number b ≡ 5 → number x ≡ 0 → SegmentNear k s
+  accepted number c five zero = by (isSegmentNear k s) refl
+    where
+      by : (t : Bool) → isSegmentNear k s ≡ t → SegmentNear k s
+      by true e = segment-near-iff k s .0 e
+      by false e = let far = ap number (c .fails (λ near. clash (segment-near-iff k s .1 near) e)) in absurd (omega (arith, far, five, zero))
+
+  pub box-rows : boxAnswer k s .refusal ≡ 0 → (y : ℤ) → HasRow (boxRows (boxAnswer k s .rectangle)) y → Within y k
   box-rows e y h =
-      let near = box-accepted (isSegmentNear k s) refl e in
+      let near = accepted (λ v. v .refusal) box-chosen refl e in
       let box = box-near s near in
-      let row = rw (box-chosen .holds near) at h in
-      within-of (omega (linear, within-low (box .first-near .y-near), row .from)) (omega (linear, within-high (box .last-near .y-near), row .to))
+      rows-within (record { first-near = box .first-near .y-near; last-near = box .last-near .y-near }) (rw (box-chosen .holds near) at h)
+
+  pub rows-inside : rowsAnswer k s .refusal ≡ 0 → (y : ℤ) → HasRow (rowsAnswer k s .rows) y → Within y k
+  rows-inside e y h = let near = accepted (λ v. v .refusal) rows-chosen refl e in rows-within (rows-near s near) (rw (rows-chosen .holds near) at h)
 
   -- ---- the span
 

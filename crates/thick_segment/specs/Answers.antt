@@ -15,10 +15,12 @@ use Rattle.thick_segment.specs.declared.EdgePair.{EdgePair}
 use Rattle.thick_segment.specs.declared.Rectangle.{Rectangle}
 use Rattle.thick_segment.specs.declared.Edged.{Edged}
 use Rattle.thick_segment.specs.declared.Boxed.{Boxed}
+use Rattle.thick_segment.specs.declared.DrawnRows.{DrawnRows}
 use Rattle.thick_segment.specs.declared.Counted.{Counted}
 use Rattle.thick_segment.specs.declared.Skeletal.{Skeletal}
 use Rattle.thick_segment.specs.declared.SegmentSpan.{SegmentSpan}
 use Rattle.thick_segment.specs.Segments.{isSegmentNear, isSkeleton, edgesOf, boundingBox, rowsOf, perimeterOf, countOf, spanOn}
+use Rattle.thick_segment.specs.Rows.{rowsFrom, drawnRows}
 
 -- ---- what stands for nothing in a refusal
 
@@ -45,6 +47,9 @@ perimeterAnswer k s = cond (isSegmentNear k s) (perimeterOf s) (rowsOf 6 [])
 
 unfoldable pub countAnswer : ℕ → Segment → Counted
 countAnswer k s = cond (isSegmentNear k s) (record { refusal = 0; count = countOf s }) (record { refusal = cornerRefused; count = 0 })
+
+unfoldable pub rowsAnswer : ℕ → Segment → DrawnRows
+rowsAnswer k s = cond (isSegmentNear k s) (record { refusal = 0; rows = drawnRows s }) (record { refusal = cornerRefused; rows = rowsFrom (pos 0) (pos 0) })
 
 -- ---- the span: 5, then 6
 

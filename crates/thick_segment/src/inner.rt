@@ -7,8 +7,10 @@ ghost use Rattle.shapes.specs.Shape.{lineOf, samePoint};
 ghost use Rattle.thick_segment.specs.Segments.{SegmentNear, isSegmentNear, upperOf, lowerOf, topOf, bottomOf, isSkeleton, edgesOf};
 ghost use Rattle.thick_segment.specs.Segments.{least as leastOf, most as mostOf, boxOf, union as unionOf, boundingBox};
 ghost use Rattle.thick_segment.specs.Segments.{coordinates as coordinatesOf, capLines, placed, countOf, lineAt, AllNear, metRows, perimeterOf, spanOn};
+ghost use Rattle.thick_segment.specs.Rows.{lineRows, around as aroundOf, withLines, drawnRows};
 use crate::EdgePair;
 use crate::Rectangle;
+use crate::Rows;
 use crate::Segment;
 use line_join::Caps;
 use line_join::Corners;
@@ -225,6 +227,54 @@ pub fn perimeter(segment: Segment) -> [[i64; 4]; 6]
     let capped = with_caps(with_caps(none, 0, first), after_start, last);
     let after_end = after_start + cap_count(last);
     with_line(with_line(capped, after_end, right), after_end + 1, left)
+}
+
+/// The rows of a line's ends: the lesser, and the greater.
+fn line_rows(line: Line) -> Rows
+    ensures { λ r. ⌜ r ≡ lineRows line ⌝ }
+{
+    let start = line.start.y;
+    let end = line.end.y;
+    Rows {
+        first: lesser(start, end),
+        last: greater(start, end),
+    }
+}
+
+/// The rows from the first to the last of two.
+pub fn around(a: Rows, b: Rows) -> Rows
+    ensures { λ r. ⌜ r ≡ aroundOf a b ⌝ }
+{
+    Rows {
+        first: lesser(a.first, b.first),
+        last: greater(a.last, b.last),
+    }
+}
+
+/// The rows, with those of the lines that close an end.
+fn with_cap_rows(rows: Rows, caps: Caps) -> Rows
+    ensures { λ r. ⌜ r ≡ withLines rows (capLines caps) ⌝ }
+{
+    match caps {
+        Caps::One(a) => around(rows, line_rows(a)),
+        Caps::Two(a, b) => around(around(rows, line_rows(a)), line_rows(b)),
+        Caps::Refused(_) => rows,
+    }
+}
+
+/// The first and the last row of the lines that are drawn.
+pub fn drawn_rows(segment: Segment) -> Rows
+    requires { ⌜ SegmentNear lineLimit segment ⌝ }
+    ensures { λ r. ⌜ r ≡ drawnRows segment ⌝ }
+{
+    let e = edges(segment);
+    if is_skeleton(segment) {
+        return line_rows(e.right);
+    }
+    let first = start_caps(segment.start);
+    let last = end_caps(segment.end);
+    let capped = with_cap_rows(with_cap_rows(line_rows(e.right), first), last);
+    around(capped, line_rows(e.left))
 }
 
 /// The lesser row of two corners.

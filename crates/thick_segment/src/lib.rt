@@ -1,8 +1,8 @@
-//! A thick segment between two joins: whether it is a skeleton, its edges and their bounding box, the lines that are drawn, and its
-//! span on a row. `thick_segment.rs`.
+//! A thick segment between two joins: whether it is a skeleton, its edges and their bounding box, the lines that are drawn and their
+//! rows, and its span on a row. `thick_segment.rs`.
 ghost use mathlib.Core.Path.{_≡_};
 ghost use Rattle.shapes.specs.Limits.{cornerLimit};
-ghost use Rattle.thick_segment.specs.Answers.{skeletonAnswer, edgesAnswer, boxAnswer, perimeterAnswer, countAnswer, segmentRefusal, spanAnswer};
+ghost use Rattle.thick_segment.specs.Answers.{skeletonAnswer, edgesAnswer, boxAnswer, perimeterAnswer, countAnswer, rowsAnswer, segmentRefusal, spanAnswer};
 
 pub mod inner; // inner.rt: the same without the tests
 
@@ -34,6 +34,12 @@ pub struct Rectangle {
     pub last: Point,
 }
 
+/// Rows from `first` to `last`, both included.
+pub struct Rows {
+    pub first: i64,
+    pub last: i64,
+}
+
 /// The edges, or the refusal with zeros.
 pub struct Edged {
     pub refusal: u64,
@@ -44,6 +50,12 @@ pub struct Edged {
 pub struct Boxed {
     pub refusal: u64,
     pub rectangle: Rectangle,
+}
+
+/// The rows of the lines that are drawn, or the refusal with zeros.
+pub struct DrawnRows {
+    pub refusal: u64,
+    pub rows: Rows,
 }
 
 /// Whether a segment is one pixel wide, or the refusal with false.
@@ -152,6 +164,23 @@ pub fn edges_bounding_box(segment: Segment) -> Boxed
     Boxed {
         refusal: CORNER,
         rectangle,
+    }
+}
+
+/// The first and the last row of the lines that are drawn: of a skeleton's right edge, else of the whole perimeter. Both rows have a drawn
+/// point, and no row outside them has one. A join with a corner beyond 4,095 is refused with 5.
+pub fn drawn_rows(segment: Segment) -> DrawnRows
+    ensures { λ r. ⌜ r ≡ rowsAnswer cornerLimit segment ⌝ }
+{
+    if is_segment_near(segment, limits::CORNER) {
+        return DrawnRows {
+            refusal: 0,
+            rows: inner::drawn_rows(segment),
+        };
+    }
+    DrawnRows {
+        refusal: CORNER,
+        rows: Rows { first: 0, last: 0 },
     }
 }
 

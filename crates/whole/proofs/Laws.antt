@@ -60,6 +60,13 @@ greater-one a b = one-of (ltZ a b) b a
 pub le-greater : (a b : ℤ) → (a ≤ℤ greater a b) × (b ≤ℤ greater a b)
 le-greater a b = greater-by a b (ltZ a b) refl
 
+-- the first, where the second does not pass it
+pub lesser-first : {a b : ℤ} → a ≤ℤ b → lesser a b ≡ a
+lesser-first {a} {b} h = ⊎-elim (λ e. e) (λ e. omega (linear, lesser-le a b .0)) (lesser-one a b)
+
+pub greater-first : {a b : ℤ} → b ≤ℤ a → greater a b ≡ a
+greater-first {a} {b} h = ⊎-elim (λ e. e) (λ e. omega (linear, le-greater a b .0)) (greater-one a b)
+
 -- ---- a rounded quotient, times its divisor: a multiple of |d| with the sign of n
 
 -- the multiple, for the sizes m of the dividend and e of the divisor

@@ -8,7 +8,6 @@ use Prim.Native.Nat.{ℕ, _+_, _-_, _≤_, _<_}
 use native.Mathlib.Omega.{arith}
 use borrow.Author.Needs.{needs}
 use lib.Dec.{lit≤}
-use lib.ListN.{getD}
 use mir.Syntax.{w64}
 use mir.Val.{toZ, ofZ}
 use mir.Facts.{toZ-ofZ}
@@ -18,15 +17,14 @@ use Rattle.shapes.specs.Limits.{boardRuns}
 use Rattle.shapes.specs.Spans.{isEmpty}
 use Rattle.shapes.specs.declared.Span.{Span}
 use Rattle.board.specs.declared.Board.{Board}
-use Rattle.thick_segment.specs.declared.Segment.{Segment}
 use Rattle.thick_segment.specs.Segments.{spanOn}
 use Rattle.board.specs.Boards.{added, boardOf}
 use Rattle.route_joins.specs.Joins.{endPlace}
 use Rattle.route_joins.proofs.Near.{place-inside}
 use Rattle.route.specs.declared.Joins.{Joins}
-use Rattle.route.specs.Joined.{noJoin, segmentsIn, segmentIn}
+use Rattle.route.specs.Joined.{segmentsIn}
 use Rattle.route.specs.Rows.{spanIn, offerAll, boardOn}
-use Rattle.route.proofs.Kept.{ends-in-array, segment-near}
+use Rattle.route.proofs.Kept.{ends-in-array, segment-made, segment-near}
 use Rattle.route.proofs.Offers.{added-few, offer-none, offer-on, offer-stop, offer-empty}
 use Rattle.route.proofs.inner.row_board.Statement.{statement}
 use Rattle.route.proofs.inner.row_board.Tie as tie
@@ -82,21 +80,20 @@ module _ (c : tie.In-loop Inv-loop μ-loop) where
 end-place-requires : tie.Need-end-place-requires Inv-loop μ-loop
 end-place-requires c κs = place-inside (route (began c) .closed) (inner c) .0
 
--- the segment of the turn, its span, and what the offer answers
-segment : (c : tie.After-end Inv-loop μ-loop) → let l = c .before .before .before in
-    _≡_ {A = Segment} (record { start = getD (route (began l) .joins) (place l) noJoin; end = getD (route (began l) .joins) (c .before .before .end-place .result) noJoin }) (segmentIn (route (began l)) (place l))
-unfolding segmentIn
-segment c = rw (c .before .before .end-place .ensures)
-
+-- the span of the turn's segment, and what the offer answers
 lit : (c : tie.After-span Inv-loop μ-loop) → let l = c .before .before .before .before in c .span .result ≡ lit-at (began l) (place l)
-lit c = c .span .ensures ∙ ap (λ s. spanOn s (toZ w64 (ofZ w64 (began (c .before .before .before .before) .before .args .row)))) (segment (c .before))
+lit c =
+    let l = c .before .before .before .before in
+    c .span .ensures ∙ ap (λ s. spanOn s (toZ w64 (ofZ w64 (began l .before .args .row)))) (segment-made (route (began l)) (place l) (c .before .before .before .end-place .ensures))
 
 answer : (c : tie.After-offer-sound Inv-loop μ-loop) → let l = c .before .before .before .before .before .before .before in
     c .offer-sound .result ≡ added (l .before .loop .board) (lit-at (began l) (place l))
 answer c = c .offer-sound .ensures ∙ ap (added (c .before .before .before .before .before .before .before .before .loop .board)) (lit (c .before .before .before))
 
 span-requires : tie.Need-span-requires Inv-loop μ-loop
-span-requires c κs = rw (segment c) (segment-near (began (c .before .before .before) .before .pre) (inner (c .before .before .before)))
+span-requires c κs =
+    let l = c .before .before .before in
+    rw (segment-made (route (began l)) (place l) (c .before .before .end-place .ensures)) (segment-near (began l .before .pre) (inner l))
 
 is-empty-requires : tie.Need-is-empty-requires Inv-loop μ-loop
 is-empty-requires c κs = search needs

@@ -1,4 +1,4 @@
--- `route::inner::rows_of` meets its contract: the rows so far, widened by the boxes that are left, are all rows. The measure is how many are left.
+-- `route::inner::rows_of` meets its contract: the rows so far, widened by those that are left, are all rows. The measure is how many are left.
 -- Assumes nothing.
 use mathlib.Core.Path.{_≡_, sym, ap, _∙_}
 use Prim.Native.Nat.{ℕ, _+_, _-_, _≤_, _<_}
@@ -6,17 +6,18 @@ use native.Mathlib.Omega.{arith}
 use borrow.Author.Needs.{needs}
 use Rattle.whole.specs.Places.{listFrom}
 use Rattle.whole.proofs.Places.{list-end, list-next}
+use Rattle.thick_segment.specs.Rows.{drawnRows}
 use Rattle.route_joins.specs.Joins.{endPlace}
 use Rattle.route_joins.proofs.Near.{place-inside}
 use Rattle.route.specs.declared.Joins.{Joins}
-use Rattle.route.specs.Joined.{segmentsIn, segmentIn}
-use Rattle.route.specs.Rows.{withBox, withBoxes, boxIn, rowsIn}
-use Rattle.route.proofs.Kept.{ends-in-array}
+use Rattle.route.specs.Joined.{segmentsIn}
+use Rattle.route.specs.Rows.{withRows, withAll, drawnIn, rowsIn}
+use Rattle.route.proofs.Kept.{ends-in-array, segment-made, segment-near}
 use Rattle.route.proofs.inner.rows_of.Statement.{statement}
 use Rattle.route.proofs.inner.rows_of.Tie as tie
 
 abbrev Inv-loop : tie.InvT-loop
-Inv-loop route count closed n rows₀ k₀ rows k = (k ≤ n) × ((n ≡ segmentsIn route) × (withBoxes rows (listFrom (boxIn route) k (n - k)) ≡ rowsIn route))
+Inv-loop route count closed n rows₀ k₀ rows k = (k ≤ n) × ((n ≡ segmentsIn route) × (withAll rows (listFrom (drawnIn route) k (n - k)) ≡ rowsIn route))
 
 abbrev μ-loop : tie.MeasureT-loop
 μ-loop route count closed n rows₀ k₀ rows k = n - k
@@ -43,15 +44,22 @@ module _ (c : tie.In-loop Inv-loop μ-loop) where
   inside : (place < 256) × (endPlace (route .closed) (route .count) place < 256)
   inside = ends-in-array (c .before .before .before .pre) inner
 
-  -- the boxes that are left begin with that of the place
+  -- the rows that are left begin with that of the place
   left : let n = c .before .before .segments-of .result in
-      withBoxes (withBox (c .before .loop .rows) (boxIn route place)) (listFrom (boxIn route) (place + 1) (n - (place + 1))) ≡ rowsIn route
-  unfolding withBoxes
-  left = ap (withBoxes (c .before .loop .rows)) (sym (list-next (boxIn route) (c .before .before .segments-of .result) place (c .loop-test .taken))) ∙ c .before .loop .inv .1 .1
+      withAll (withRows (c .before .loop .rows) (drawnIn route place)) (listFrom (drawnIn route) (place + 1) (n - (place + 1))) ≡ rowsIn route
+  unfolding withAll
+  left = ap (withAll (c .before .loop .rows)) (sym (list-next (drawnIn route) (c .before .before .segments-of .result) place (c .loop-test .taken))) ∙ c .before .loop .inv .1 .1
 
-widened : (c : tie.After-with-box Inv-loop μ-loop) → let l = c .before .before .before .before .before in c .with-box .result ≡ withBox (l .before .loop .rows) (boxIn (route l) (place l))
-unfolding segmentIn
-widened c = let l = c .before .before .before .before .before in c .with-box .ensures ∙ ap (withBox (l .before .loop .rows)) (c .before .edges-bounding-box .ensures ∙ rw (c .before .before .before .before .end-place .ensures))
+drawn-rows-requires : tie.Need-drawn-rows-requires Inv-loop μ-loop
+drawn-rows-requires c κs =
+    let l = c .before .before .before in
+    rw (segment-made (route l) (place l) (c .before .before .end-place .ensures)) (segment-near (l .before .before .before .pre) (inner l))
+
+-- the rows with those of the turn's segment
+widened : (c : tie.After-with-rows Inv-loop μ-loop) → let l = c .before .before .before .before .before in c .with-rows .result ≡ withRows (l .before .loop .rows) (drawnIn (route l) (place l))
+widened c =
+    let l = c .before .before .before .before .before in
+    c .with-rows .ensures ∙ ap (withRows (l .before .loop .rows)) (c .before .drawn-rows .ensures ∙ ap drawnRows (segment-made (route l) (place l) (c .before .before .before .before .end-place .ensures)))
 
 loop-again : tie.Need-loop-again Inv-loop μ-loop
 loop-again c =
@@ -59,10 +67,10 @@ loop-again c =
     (omega arith, (l .before .loop .inv .1 .0, rw (widened c) (left l)))
 
 returns : tie.Need-returns Inv-loop μ-loop
-unfolding withBoxes
+unfolding withAll
 returns c =
     let l = c .before in
-    sym (ap (withBoxes (l .loop .rows)) (list-end (boxIn (l .before .before .args .t1)) (l .before .segments-of .result) (l .loop .k) (omega arith))) ∙ l .loop .inv .1 .1
+    sym (ap (withAll (l .loop .rows)) (list-end (drawnIn (l .before .before .args .t1)) (l .before .segments-of .result) (l .loop .k) (omega arith))) ∙ l .loop .inv .1 .1
 
 pub rows-of-spec : {M : Type 1} → statement M
 rows-of-spec =
@@ -77,7 +85,7 @@ rows-of-spec =
     (λ c. inside (c .before) .0)
     (λ c. omega (arith, inside (c .before .before) .1, c .before .end-place .ensures))
     (λ c. omega (arith, inside (c .before .before) .1, c .before .end-place .ensures))
-    (λ c κs. search needs)
+    drawn-rows-requires
     (λ c κs. search needs)
     (λ c. omega (arith, inside (c .before .before .before .before .before) .0))
     (λ c. omega arith)

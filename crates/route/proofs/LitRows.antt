@@ -1,0 +1,104 @@
+-- Which rows of a route are lit: none outside its rows, and its first and its last are. Assumes nothing.
+use mathlib.Core.Path.{_≡_, refl, sym, ap, _∙_}
+use mathlib.Core.Bool.{Bool, true, false}
+use mathlib.Core.List.{List, []}
+use Prim.Native.Nat.{ℕ, zero, suc, _+_, _<_}
+use native.Mathlib.Nat.{zero-add}
+use native.Mathlib.Omega.{arith}
+use borrow.Author.Tests.{le-leb}
+use lib.IntN.{ℤ, pos}
+use lib.ListN.{length}
+use lib.Signed.{_≤ℤ_}
+use Rattle.whole.specs.Number.{Within}
+use Rattle.whole.specs.Places.{listFrom}
+use Rattle.whole.proofs.Laws.{within-true}
+use Rattle.whole.proofs.Linear.{linear}
+use Rattle.shapes.specs.declared.limits.Limits.{Limits}
+use Rattle.shapes.specs.declared.Span.{Span}
+use Rattle.shapes.specs.Spans.{isEmpty}
+use Rattle.thick_segment.specs.declared.Rows.{Rows}
+use Rattle.thick_segment.specs.Segments.{spanOn}
+use Rattle.thick_segment.specs.Rows.{drawnRows}
+use Rattle.thick_segment.specs.Words.{HasRow}
+use Rattle.thick_segment.proofs.Lit.{point-row, ends-lit, row-dark}
+use Rattle.board.specs.declared.Board.{Board}
+use Rattle.board.specs.Runs.{total, flat}
+use Rattle.board.specs.Boards.{boardOf, answerOf, told, toldTo, over}
+use Rattle.board_laws.proofs.Offers.{live-of}
+use Rattle.route_joins.specs.Joins.{segmentAt, segmentCount}
+use Rattle.route_joins.proofs.Near.{joins-exactly}
+use Rattle.route.specs.declared.RowRange.{RowRange}
+use Rattle.route.specs.Joined.{joinsOf}
+use Rattle.route.specs.Rows.{offerAll, boardOn}
+use Rattle.route.specs.Words.{spansOn, Inside, Drawn}
+use Rattle.route.specs.Answers.{drawRefusal, rowsAnswer, noListing, listingOf, refusalOn, answerOn, listOn, rowAnswer, rowTo}
+use Rattle.route.proofs.AllRows.{rows-bounds}
+use Rattle.route.proofs.Drawn.{row-draws}
+use Rattle.route.proofs.Offers.{offer-none, offer-empty}
+use Rattle.route.proofs.Refused.{draw-none}
+
+-- spans that are all empty light nothing
+none-offered : (b : Board) (at : ℕ → Span) (left i : ℕ) → ((d : ℕ) → d < left → isEmpty (at (i + d)) ≡ true) → offerAll b (listFrom at i left) ≡ answerOf 0 b
+unfolding listFrom
+none-offered b at zero i all = offer-none b
+none-offered b at (suc left) i all =
+    let here : i + 0 ≡ i = omega arith in
+    offer-empty b (at i) (listFrom at (suc i) left) (rw here at (all 0 (omega arith)))
+    ∙ none-offered b at left (suc i) (λ d h. let on : suc i + d ≡ i + suc d = omega arith in rw on (all (suc d) (omega arith)))
+
+-- a fresh board has no run to list
+fresh-listed : (row : ℤ) (out : List ℤ) → (told (boardOf row []) (length out) ≡ record { refusal = 0; count = 0; total = pos 0 }) × (toldTo (boardOf row []) out ≡ out)
+unfolding told toldTo over total flat
+fresh-listed row out = (rw (live-of row [], le-leb 0 (length out) (omega arith)), rw (live-of row [], le-leb 0 (length out) (omega arith)))
+
+module _ (limits : Limits) (closed : Bool) (cs : List ℤ) (w : ℤ) (free : drawRefusal limits closed cs w ≡ 0) where
+  abbrev rows : RowRange
+  rows = rowsAnswer limits closed cs w
+
+  -- the rows of each segment are among them
+  segment-inside : {i : ℕ} {row : ℤ} → i < segmentCount closed cs → HasRow (drawnRows (segmentAt closed cs w i)) row → Inside rows row
+  segment-inside {i} {row} h on =
+      let b = rows-bounds limits closed cs w free (omega (arith, h)) in
+      record { some = b .some; from = omega (linear, b .first-holds i h, on .from); upto = omega (linear, b .last-holds i h, on .to) }
+
+  -- wherever a line has a drawn point, the row is one of them
+  pub drawn-inside : {row : ℤ} → Drawn closed cs w row → Inside rows row
+  drawn-inside d = segment-inside (d .placed) (rw (d .lit .on-row) at (point-row (segmentAt closed cs w (d .place)) (d .lit .among)))
+
+  -- the first and the last have one
+  module _ (some : 0 < segmentCount closed cs) where
+    pub first-drawn : Drawn closed cs w (rows .first)
+    first-drawn =
+        let m = rows-bounds limits closed cs w free some .first-met in
+        record { place = m .at; placed = m .inside; lit = rw (m .is, zero-add (m .at)) (ends-lit (segmentAt closed cs w (m .at)) .first-lit) }
+
+    pub last-drawn : Drawn closed cs w (rows .last)
+    last-drawn =
+        let m = rows-bounds limits closed cs w free some .last-met in
+        record { place = m .at; placed = m .inside; lit = rw (m .is, zero-add (m .at)) (ends-lit (segmentAt closed cs w (m .at)) .last-lit) }
+
+    -- so no fewer rows have all drawn points
+    pub rows-least : {first last : ℤ} → ((row : ℤ) → Drawn closed cs w row → (first ≤ℤ row) × (row ≤ℤ last)) → (first ≤ℤ rows .first) × (rows .last ≤ℤ last)
+    rows-least all = (all (rows .first) first-drawn .0, all (rows .last) last-drawn .1)
+
+  -- ---- a row that is none of them
+
+  module _ {row : ℤ} (off : Inside rows row → ⊥) where
+    -- no segment has a column there
+    pub outside-empty : {i : ℕ} → i < segmentCount closed cs → isEmpty (spanOn (segmentAt closed cs w i) row) ≡ true
+    outside-empty {i} h = row-dark (segmentAt closed cs w i) row (λ on. off (segment-inside h on))
+
+    -- so its board is the fresh one
+    pub outside-board : boardOn (joinsOf (limits .corner) closed cs w) row ≡ answerOf 0 (boardOf row [])
+    unfolding spansOn
+    outside-board =
+        let a = draw-none limits closed cs w .0 free in
+        row-draws (limits .corner) (a .0) (joins-exactly (limits .corner) closed cs w .1 (a .1)) row
+        ∙ none-offered (boardOf row []) (λ k. spanOn (segmentAt closed cs w k) row) (segmentCount closed cs) 0 (λ d h. rw (zero-add d) (outside-empty h))
+
+    -- and the entry lists no run, whatever list is lent
+    pub outside-listed : Within row (limits .corner) → (out : List ℤ) → (rowAnswer limits closed cs w row (length out) ≡ noListing 0) × (rowTo limits closed cs w row out ≡ out)
+    unfolding rowAnswer rowTo answerOn listOn refusalOn
+    outside-listed inside out =
+        let fresh = fresh-listed row out in
+        (rw (free, within-true inside, outside-board) (ap listingOf (fresh .0)), rw (free, within-true inside, outside-board) (fresh .1))

@@ -1,0 +1,26 @@
+use mathlib.Core.Path.{_≡_, sym, _∙_}
+use mathlib.Core.Bool.{true}
+use borrow.Author.Needs.{needs}
+use Rattle.shapes.specs.Limits.{cornerLimit}
+use Rattle.thick_segment.specs.Segments.{isSegmentNear}
+use Rattle.thick_segment.specs.Answers.{rowsAnswer}
+use Rattle.thick_segment.proofs.Refused.{segment-room}
+use Rattle.thick_segment.proofs.drawn_rows.Statement.{statement}
+use Rattle.thick_segment.proofs.drawn_rows.Tie as tie
+
+inside : (c : tie.Then1) → isSegmentNear cornerLimit (c .before .before .args .segment) ≡ true
+inside c = sym (c .before .is-segment-near .ensures) ∙ c .if1 .taken
+
+drawn-rows-requires : tie.Need-drawn-rows-requires
+drawn-rows-requires c κs = segment-room (c .before .before .args .segment) (inside c)
+
+returns : tie.Need-returns
+unfolding rowsAnswer
+returns c = simp (inside (c .before), c .drawn-rows .ensures)
+
+returns-2 : tie.Need-returns-2
+unfolding rowsAnswer
+returns-2 c = simp (sym (c .before .is-segment-near .ensures) ∙ c .if1 .left)
+
+pub drawn-rows-spec : {M : Type 1} → statement M
+drawn-rows-spec = tie.close (tie.spec (λ c κs. search needs) drawn-rows-requires returns returns-2)
