@@ -209,7 +209,7 @@ pub fn rows_of(route: Joins) -> RowRange
 {
     let count = route.count;
     let closed = route.closed;
-    let n = segments_of(count, closed);
+    let segments = segments_of(count, closed);
     let mut rows = RowRange {
         refusal: 0,
         some: false,
@@ -217,7 +217,7 @@ pub fn rows_of(route: Joins) -> RowRange
         last: 0,
     };
     let mut k: usize = 0;
-    while k < n {
+    while k < segments {
         let next = end_place(count, closed, k);
         let start = route.joins[k];
         let end = route.joins[next];

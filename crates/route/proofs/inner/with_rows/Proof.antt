@@ -1,33 +1,35 @@
 -- `route::inner::with_rows` meets its contract. Assumes nothing.
-use mathlib.Core.Path.{_∙_}
+use mathlib.Core.Path.{_≡_, ap, _∙_}
 use borrow.Author.Needs.{needs}
 use mir.Facts.{toZ-ofZ}
 use mir.Syntax.{w64}
+use Rattle.thick_segment.specs.Rows.{rowsFrom, around}
 use Rattle.route.specs.Rows.{withRows}
 use Rattle.route.proofs.inner.with_rows.Statement.{statement}
 use Rattle.route.proofs.inner.with_rows.Tie as tie
+
+-- the rows around those so far and the segment's
+wide : (c : tie.After-around) → let a = c .before .before .before .args in c .around .result ≡ around (rowsFrom (a .range .first) (a .range .last)) (a .rows)
+wide c =
+    let r = c .before .before .before .args .range in
+    c .around .ensures ∙ rw (toZ-ofZ {w = w64} {z = r .first} (search needs), toZ-ofZ {w = w64} {z = r .last} (search needs))
 
 returns : tie.Need-returns
 unfolding withRows
 returns c =
     let w = c .before in
-    let t = w .before .before in
-    let a = t .before .args .range in
-    let wide = w .around .result in
-    rw (
-      t .if1 .taken,
-      toZ-ofZ {w = w64} {z = wide .first} (search needs),
-      toZ-ofZ {w = w64} {z = wide .last} (search needs),
-      w .around .ensures,
-      toZ-ofZ {w = w64} {z = a .first} (search needs),
-      toZ-ofZ {w = w64} {z = a .last} (search needs),
+    let r = w .around .result in
+    simp (
+      w .before .before .if1 .taken,
+      toZ-ofZ {w = w64} {z = r .first} (search needs) ∙ ap (λ r. r .first) (wide w),
+      toZ-ofZ {w = w64} {z = r .last} (search needs) ∙ ap (λ r. r .last) (wide w),
     )
 
 returns-2 : tie.Need-returns-2
 unfolding withRows
 returns-2 c =
     let r = c .before .before .args .rows in
-    rw (c .before .if1 .left, toZ-ofZ {w = w64} {z = r .first} (search needs), toZ-ofZ {w = w64} {z = r .last} (search needs))
+    simp (c .before .if1 .left, toZ-ofZ {w = w64} {z = r .first} (search needs), toZ-ofZ {w = w64} {z = r .last} (search needs))
 
 pub with-rows-spec : {M : Type 1} → statement M
 with-rows-spec = tie.close (tie.spec (λ c κs. search needs) returns returns-2)

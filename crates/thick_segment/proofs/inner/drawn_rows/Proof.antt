@@ -1,6 +1,5 @@
-use mathlib.Core.Path.{sym, ap, _∙_}
+use mathlib.Core.Path.{sym, _∙_}
 use borrow.Author.Needs.{needs}
-use Rattle.thick_segment.specs.Rows.{lineRows}
 use Rattle.thick_segment.proofs.Lit.{skeleton-rows, perimeter-rows}
 use Rattle.thick_segment.proofs.inner.drawn_rows.Statement.{statement}
 use Rattle.thick_segment.proofs.inner.drawn_rows.Tie as tie
@@ -9,8 +8,7 @@ returns : tie.Need-returns
 returns c =
     let t = c .before in
     let d = t .before .before in
-    c .line-rows .ensures ∙ ap (λ e. lineRows (e .right)) (d .edges .ensures)
-    ∙ sym (skeleton-rows (d .before .args .segment) (sym (t .before .is-skeleton .ensures) ∙ t .if1 .taken))
+    c .line-rows .ensures ∙ simp (d .edges .ensures) (sym (skeleton-rows (d .before .args .segment) (sym (t .before .is-skeleton .ensures) ∙ t .if1 .taken)))
 
 returns-2 : tie.Need-returns-2
 returns-2 c =
@@ -22,7 +20,7 @@ returns-2 c =
     let t = caps .before .before in
     let d = t .before .before in
     c .around .ensures
-    ∙ rw (
+    ∙ simp (
       end .with-cap-rows2 .ensures,
       start .with-cap-rows .ensures,
       right .line-rows2 .ensures,
