@@ -1,7 +1,8 @@
 #!/usr/bin/env python3
 """oracle/corners.py: what the program test_corners must write, by the independent calculation.
 
-The questions are those of crates/test_corners/src/main.rt: document 01's corners marked "Run only".
+The questions are those of crates/test_corners/src/main.rt: document 01's corners marked "Run only", and a skeleton whose box has
+other rows than its drawn line.
 """
 
 import sys
@@ -26,6 +27,8 @@ MITERS = (
 KEPT, CUT = "squared miter 36 at width 3: kept", "squared miter 37 at width 3: cut"
 RIGHT_ANGLE = (0, 0, 60, 0, 60, 60)
 AT_LIMITS = (511, -511, -511, -511, -511, 511)
+# A closed route whose second segment is a skeleton with the offset Right, at width 2; its edges differ.
+TRIANGLE = (-5, -3, -1, -1, 3, -5)
 # What stands in a lent list before.
 UNTOUCHED = -7
 
@@ -141,6 +144,15 @@ def zigzag_lines(strokes):
     yield f"all rows {verdict(route_refusal(coordinates, 1))}"
 
 
+def skeleton_lines():
+    found = walks.closed_segments(exact.paired(TRIANGLE), 2, "Right")
+    for place, segment in enumerate(found):
+        _, top, _, height = segment.edges_bounding_box()
+        boxed, drawn = words(top, top + height - 1), words(*segment.drawn_rows())
+        skeleton = exact.truth(segment.is_skeleton())
+        yield f"segment {place}: skeleton {skeleton}, rows of the box {boxed}, of what is drawn {drawn}"
+
+
 def lines():
     yield from miter_lines()
     for width, bend in bends():
@@ -150,6 +162,8 @@ def lines():
     for strokes in (32, 33):
         for line in zigzag_lines(strokes):
             yield f"zigzag of {strokes} strokes: {line}"
+    for line in skeleton_lines():
+        yield f"closed {words(*TRIANGLE)}, Right, {line}"
 
 
 if __name__ == "__main__":

@@ -1,9 +1,12 @@
-//! 01's corners that are run and not proved: squared miters of 36 and 37 at width 3, widths 64 and 65, coordinates 511 and 512 with
-//! either sign at each place, 32 and 33 runs. Here are the questions alone; what must be written stands in `stdout`, and comes from another calculation
-//! (oracle/README.md).
+//! Corners that are run and not proved: squared miters of 36 and 37 at width 3, widths 64 and 65, coordinates 511 and 512 with
+//! either sign at each place, 32 and 33 runs, and a skeleton whose box has other rows than its drawn line. Here are the questions alone; what must be
+//! written stands in `stdout`, and comes from another calculation (oracle/README.md).
 ghost use Prim.Native.Nat.{_≤_, _<_};
 ghost use lib.ListN.{length};
 use board::Board;
+use closed_thick_segment_iter::Walk;
+use closed_thick_segment_iter::start;
+use closed_thick_segment_iter::step;
 use coordinates::point_count;
 use extents::Answer;
 use extents::extents;
@@ -12,6 +15,7 @@ use intersection_params::crossing;
 use line_join::Joined;
 use line_join::Kind;
 use line_join::from_points;
+use route_joins::Step;
 use shapes::Line;
 use shapes::Offset;
 use shapes::Point;
@@ -22,8 +26,13 @@ use shapes::inner::minus;
 use shapes::inner::squared_length;
 use shapes::limits::CORNER;
 use test_joins::say_join;
+use test_text::say_bool;
 use test_text::say_line;
 use test_text::say_numbers;
+use thick_segment::Segment;
+use thick_segment::drawn_rows;
+use thick_segment::edges_bounding_box;
+use thick_segment::is_skeleton;
 use writing::say;
 use writing::say_count;
 use writing::say_next;
@@ -36,6 +45,7 @@ fn main() {
     ask_coordinates();
     ask_board();
     ask_routes();
+    ask_skeletons();
 }
 
 /// Bends with their outer side on the left and on the right: first miters that are just short enough, then just too long.
@@ -90,6 +100,50 @@ fn ask_routes() {
     let mut refused = [0i64; 68];
     draw_zigzag(&mut refused);
     ask_zigzag(&refused);
+}
+
+/// A closed walk whose stroke lies to the right: its second segment is a skeleton whose edges differ.
+fn ask_skeletons() {
+    let triangle = [-5i64, -3, -1, -1, 3, -5];
+    let started = start(&triangle, 2, Offset::Right);
+    let second = ask_segment(&triangle, started.walk);
+    let third = ask_segment(&triangle, second);
+    ask_segment(&triangle, third);
+}
+
+/// The segment at a walk's place, and the walk after it.
+fn ask_segment(coordinates: &[i64], walk: Walk) -> Walk {
+    say(b"closed");
+    say_numbers(coordinates);
+    say(b", Right, segment ");
+    say_count(walk.place as u64);
+    say(b": ");
+    let stepped = step(coordinates, walk);
+    let answered = stepped.step;
+    match answered {
+        Step::Drawn(segment) => say_rows(segment),
+        Step::End => say(b"none"),
+        Step::Refused(number) => say_refused(number),
+    }
+    say(b"\n");
+    stepped.walk
+}
+
+/// Whether a segment is a skeleton, the rows of its box, and those of the lines that are drawn.
+fn say_rows(segment: Segment) {
+    let tested = is_skeleton(segment);
+    let boxed = edges_bounding_box(segment);
+    let around = boxed.rectangle;
+    let drawn = drawn_rows(segment);
+    let rows = drawn.rows;
+    say(b"skeleton ");
+    say_bool(tested.skeleton);
+    say(b", rows of the box");
+    say_next(around.first.y);
+    say_next(around.last.y);
+    say(b", of what is drawn");
+    say_next(rows.first);
+    say_next(rows.last);
 }
 
 /// How long the miter of a bend is, and whether it is kept. A bend is three points, x and y of each in turn.

@@ -14,8 +14,10 @@ use test_text::say_line;
 use test_text::say_numbers;
 use test_text::say_point;
 use thick_segment::Boxed;
+use thick_segment::DrawnRows;
 use thick_segment::Edged;
 use thick_segment::Segment;
+use thick_segment::drawn_rows;
 use thick_segment::edges;
 use thick_segment::edges_bounding_box;
 use thick_segment::is_skeleton;
@@ -44,6 +46,7 @@ struct SpanAt {
 pub fn answer(kind: u8, questions: &[u8], at: usize) {
     match kind {
         b'k' => answer_segment(questions, at),
+        b'q' => answer_rows(questions, at),
         b'r' => answer_row(questions, at),
         b'm' => answer_meet(questions, at),
         b'u' => answer_extend(questions, at),
@@ -56,6 +59,12 @@ fn answer_segment(questions: &[u8], at: usize) {
     let asked = segment_at(questions, at);
     let segment = asked.segment;
     say_segment(segment);
+}
+
+fn answer_rows(questions: &[u8], at: usize) {
+    let asked = segment_at(questions, at);
+    let segment = asked.segment;
+    say_drawn_rows(drawn_rows(segment));
 }
 
 fn answer_row(questions: &[u8], at: usize) {
@@ -164,6 +173,17 @@ fn say_box(boxed: Boxed) {
     say_point(first);
     say_next(pixels(first.x, last.x));
     say_next(pixels(first.y, last.y));
+}
+
+/// The first and the last row of the lines that are drawn.
+fn say_drawn_rows(drawn: DrawnRows) {
+    if drawn.refusal != 0 {
+        say_refused(drawn.refusal);
+        return;
+    }
+    let rows = drawn.rows;
+    say_number(rows.first);
+    say_next(rows.last);
 }
 
 /// How many columns or rows there are from one to another, both included and both within 4,095; else 0.
