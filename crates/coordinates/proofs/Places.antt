@@ -1,9 +1,9 @@
--- Places round a closed route stay in it. Assumes nothing.
+-- Places round a closed route stay in it, and one comes after the one before it. Assumes nothing.
 use mathlib.Core.Path.{_≡_, refl}
 use mathlib.Core.Bool.{Bool, true, false, cond}
 use Prim.Native.Nat.{ℕ, _+_, _-_, _<_}
 use native.Mathlib.Omega.{arith}
-use borrow.Author.Tests.{eqb-false}
+use borrow.Author.Tests.{eqb-true, eqb-false, eq-eqb, ne-eqb}
 use lib.Dec.{eqb}
 use Rattle.coordinates.specs.Points.{placeAfter, placeBefore}
 
@@ -22,3 +22,19 @@ before-by n i false h = omega arith
 pub before-inside : {n i : ℕ} → i < n → placeBefore n i < n
 unfolding placeBefore
 before-inside {n} {i} = before-by n i (eqb i 0)
+
+-- after the place before one comes that one again
+round-by : (n i : ℕ) (t : Bool) → eqb i 0 ≡ t → i < n → placeAfter n (cond t (n - 1) (i - 1)) ≡ i
+unfolding placeAfter
+round-by n i true e h =
+    let first = eqb-true i 0 e in
+    let last : n - 1 + 1 ≡ n = omega arith in
+    rw (eq-eqb (n - 1 + 1) n last) (omega (arith, first))
+round-by n i false e h =
+    let some = eqb-false i 0 e in
+    let on : i - 1 + 1 ≡ i = omega (arith, some) in
+    rw (on, ne-eqb i n (λ z. omega arith))
+
+pub before-after : {n i : ℕ} → i < n → placeAfter n (placeBefore n i) ≡ i
+unfolding placeBefore
+before-after {n} {i} = round-by n i (eqb i 0) refl

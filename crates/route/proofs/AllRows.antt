@@ -33,7 +33,7 @@ use Rattle.route.proofs.Refused.{draw-none, draw-most, on-eight, row-ei
 
 -- ---- the rows of a route
 
-all-refusal : (range : RowRange) (rs : List Rows) → range .refusal ≡ 0 → withAll range rs .refusal ≡ 0
+pub all-refusal : (range : RowRange) (rs : List Rows) → range .refusal ≡ 0 → withAll range rs .refusal ≡ 0
 unfolding withAll withRows
 all-refusal range [] e = e
 all-refusal range (r ∷ rs) e = all-refusal (withRows range r) rs (by (range .some) refl)

@@ -48,7 +48,8 @@ unfolding segmentsOf endPlace
 place-inside true h = (h, after-inside h)
 place-inside false h = (omega arith, omega arith)
 
-several-by : (n : ℕ) (closed : Bool) {k : ℕ} → (closed ≡ true → n ≢ 1) → k < segmentsOf closed n → 2 ≤ n
+-- a route that nothing refuses, and that has a segment, has two points or more
+pub several-by : (n : ℕ) (closed : Bool) {k : ℕ} → (closed ≡ true → n ≢ 1) → k < segmentsOf closed n → 2 ≤ n
 unfolding segmentsOf
 several-by n true s h = omega (arith, s refl)
 several-by n false s h = omega arith

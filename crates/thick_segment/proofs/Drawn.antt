@@ -38,6 +38,9 @@ use Rattle.line_join.specs.Join.{outer}
 use Rattle.line_join.specs.Caps.{JoinNear, between, fillerBy, cappedBy, fillerOf, capOf, startCapsOf, endCapsOf}
 use Rattle.thick_segment.proofs.Scanned.{Each, none, more}
 use Rattle.thick_segment.specs.declared.Segment.{Segment}
+use Rattle.thick_segment.specs.declared.Rows.{Rows}
+use Rattle.thick_segment.specs.Rows.{rowsFrom}
+use Rattle.thick_segment.specs.Words.{HasRow}
 use Rattle.thick_segment.specs.Segments.{SegmentNear, topOf, bottomOf, isSkeleton, capLines, edgesOf, drawn, metAll, spanOn}
 
 pub caps-most : (k : Caps) → length (capLines k) ≤ 2
@@ -56,15 +59,15 @@ drawn-most s = drawn-by s (isSkeleton s) refl
 -- ---- what holds of all corners, and of the middle of two points where it holds of both, holds of the ends of each drawn line
 
 module _ (P : Point → Type 0) where
-  record CornersHave (c : Corners) : Type 0 where
-    left : P (c .left)
-    right : P (c .right)
+  pub record CornersHave (c : Corners) : Type 0 where
+    pub left : P (c .left)
+    pub right : P (c .right)
 
-  record JoinHas (j : Join) : Type 0 where
-    ending : CornersHave (j .ending)
-    starting : CornersHave (j .starting)
+  pub record JoinHas (j : Join) : Type 0 where
+    pub ending : CornersHave (j .ending)
+    pub starting : CornersHave (j .starting)
 
-  data Ends : List Line → Type 0 where
+  pub data Ends : List Line → Type 0 where
     no-lines : Ends []
     and-line : {l : Line} {ls : List Line} → P (l .start) → P (l .end) → Ends ls → Ends (l ∷ ls)
 
@@ -121,15 +124,18 @@ drawn-near s h = ends-near (drawn-have (Near _) mid-near s (isSkeleton s) refl (
 
 -- ---- and lies between the first and the last row of the corners
 
-record Rows (first last : ℤ) (p : Point) : Type 0 where
-  low : first ≤ℤ p .y
-  high : p .y ≤ℤ last
+-- a point is on one of the rows
+abbrev pub On : Rows → Point → Type 0
+On r p = HasRow r (p .y)
 
-mid-rows : {first last : ℤ} (l : Line) → Rows first last (l .start) → Rows first last (l .end) → Rows first last (midpoint l)
+mid-on : {r : Rows} (l : Line) → On r (l .start) → On r (l .end) → On r (midpoint l)
 unfolding midpoint plus delta minus
-mid-rows l p q = record { low = mid-low (p .low) (q .low); high = mid-high (p .high) (q .high) }
+mid-on l p q = record { from = mid-low (p .from) (q .from); to = mid-high (p .to) (q .to) }
 
-rows-have : (j : Join) {first last : ℤ} → first ≤ℤ topOf j → bottomOf j ≤ℤ last → JoinHas (Rows first last) j
+pub drawn-on : {r : Rows} (s : Segment) → JoinHas (On r) (s .start) → JoinHas (On r) (s .end) → Ends (On r) (drawn s)
+drawn-on {r} s a b = drawn-have (On r) mid-on s (isSkeleton s) refl a b
+
+rows-have : (j : Join) {first last : ℤ} → first ≤ℤ topOf j → bottomOf j ≤ℤ last → JoinHas (On (rowsFrom first last)) j
 unfolding topOf bottomOf
 rows-have j {first} {last} p q =
     let a = j .ending in
@@ -141,19 +147,19 @@ rows-have j {first} {last} p q =
     let ga = le-greater (a .left .y) (a .right .y) in
     let gb = le-greater (b .left .y) (b .right .y) in
     record {
-      ending = record { left = record { low = omega linear; high = omega linear }; right = record { low = omega linear; high = omega linear } };
-      starting = record { left = record { low = omega linear; high = omega linear }; right = record { low = omega linear; high = omega linear } };
+      ending = record { left = record { from = omega linear; to = omega linear }; right = record { from = omega linear; to = omega linear } };
+      starting = record { left = record { from = omega linear; to = omega linear }; right = record { from = omega linear; to = omega linear } };
     }
 
 -- a row above or below the rows of both ends is not met
-beside : (t : Span) (l : Line) {first last : ℤ} → Rows first last (l .start) → Rows first last (l .end) → (t .row <ℤ first) ⊎ (last <ℤ t .row) → met t l ≡ t
+beside : (t : Span) (l : Line) {r : Rows} → On r (l .start) → On r (l .end) → (t .row <ℤ r .first) ⊎ (r .last <ℤ t .row) → met t l ≡ t
 beside t l p q out =
     met-off t l (else-false (hasRow l (t .row)) (λ e.
     let on = row-exactly l (t .row) .0 e in
     ⊎-elim (λ above. ⊎-elim (λ is. omega (ordered, on .low)) (λ is. omega (ordered, on .low)) (lesser-one (l .start .y) (l .end .y)))
     (λ below. ⊎-elim (λ is. omega (ordered, on .high)) (λ is. omega (ordered, on .high)) (greater-one (l .start .y) (l .end .y))) out))
 
-all-beside : (t : Span) {first last : ℤ} {ls : List Line} → Ends (Rows first last) ls → (t .row <ℤ first) ⊎ (last <ℤ t .row) → metAll t ls ≡ t
+all-beside : (t : Span) {r : Rows} {ls : List Line} → Ends (On r) ls → (t .row <ℤ r .first) ⊎ (r .last <ℤ t .row) → metAll t ls ≡ t
 unfolding metAll
 all-beside t no-lines out = refl
 all-beside t {ls = l ∷ ls} (and-line p q e) out = rw (beside t l p q out) (all-beside t e out)
@@ -164,4 +170,4 @@ unfolding spanOn
 span-beside s row out =
     let l = lesser-le (topOf (s .start)) (topOf (s .end)) in
     let g = le-greater (bottomOf (s .start)) (bottomOf (s .end)) in
-    all-beside (newSpan row) (drawn-have (Rows _ _) mid-rows s (isSkeleton s) refl (rows-have (s .start) (l .0) (g .0)) (rows-have (s .end) (l .1) (g .1))) out
+    all-beside (newSpan row) (drawn-on s (rows-have (s .start) (l .0) (g .0)) (rows-have (s .end) (l .1) (g .1))) out

@@ -7,7 +7,8 @@ use Prim.Native.Nat.{ℕ}
 use lib.IntN.{ℤ}
 use lib.Signed.{_≤ℤ_}
 use Rattle.whole.specs.Number.{Within, lesser, greater}
-use Rattle.whole.proofs.Laws.{lesser-le, le-greater, lesser-one, greater-one, lesser-first, greater-first}
+use Rattle.whole.proofs.Laws.{lesser-le, le-lesser, le-greater, lesser-one, greater-one, lesser-first, greater-first}
+use Rattle.whole.proofs.Columns.{greater-le}
 use Rattle.whole.proofs.Linear.{linear}
 use Rattle.whole.proofs.Spans.{within-lesser, within-greater}
 use Rattle.whole.proofs.Tests.{else-false}
@@ -23,24 +24,24 @@ use Rattle.scanline.proofs.Rows.{first-at, on-column}
 use Rattle.line_join.specs.Caps.{startCapsOf, endCapsOf}
 use Rattle.thick_segment.specs.declared.Segment.{Segment}
 use Rattle.thick_segment.specs.declared.Rows.{Rows}
-use Rattle.thick_segment.specs.Segments.{SegmentNear, isSkeleton, capLines, edgesOf, drawn, spanOn}
-use Rattle.thick_segment.specs.Rows.{lineRows, around, withLines, drawnRows}
+use Rattle.thick_segment.specs.Segments.{SegmentNear, isSkeleton, capLines, edgesOf, least, most, boxOf, union, boundingBox, drawn, spanOn}
+use Rattle.thick_segment.specs.Rows.{lineRows, boxRows, around, withLines, drawnRows}
 use Rattle.thick_segment.specs.Words.{pointsOf, drawnPoints, HasRow, Holds, Lit, LitEnds, RowsNear}
-use Rattle.thick_segment.proofs.Drawn.{drawn-near}
+use Rattle.thick_segment.proofs.Drawn.{JoinHas, Ends, no-lines, and-line, On, drawn-near, drawn-on}
 use Rattle.thick_segment.proofs.Laws.{span-empty}
 use Rattle.thick_segment.proofs.Scanned.{Each, none, more}
 
 -- ---- rows around two
 
-around-first : (a b : Rows) → Holds (around a b) a
+pub around-first : (a b : Rows) → Holds (around a b) a
 unfolding around
 around-first a b = record { from = lesser-le (a .first) (b .first) .0; to = le-greater (a .last) (b .last) .0 }
 
-around-second : (a b : Rows) → Holds (around a b) b
+pub around-second : (a b : Rows) → Holds (around a b) b
 unfolding around
 around-second a b = record { from = lesser-le (a .first) (b .first) .1; to = le-greater (a .last) (b .last) .1 }
 
-holds-on : {a b c : Rows} → Holds a b → Holds b c → Holds a c
+pub holds-on : {a b c : Rows} → Holds a b → Holds b c → Holds a c
 holds-on p q = record { from = omega (linear, p .from, q .from); to = omega (linear, p .to, q .to) }
 
 pub holds-row : {a b : Rows} {y : ℤ} → Holds a b → HasRow b y → HasRow a y
@@ -80,6 +81,35 @@ perimeter-rows s e =
     rw e
     (with-append right start (end ++ edges) ∙ with-append (withLines right start) end edges
     ∙ ap (λ r. around r (lineRows (edgesOf s .left))) (held (holds-on (with-holds (withLines right start) end) (with-holds right start))))
+
+-- rows that hold two hold those around them
+around-among : {r a b : Rows} → Holds r a → Holds r b → Holds r (around a b)
+unfolding around
+around-among p q = record { from = le-lesser _ _ _ (p .from) (q .from); to = greater-le _ _ _ (p .to) (q .to) }
+
+line-among : {r : Rows} (l : Line) → On r (l .start) → On r (l .end) → Holds r (lineRows l)
+line-among l p q = record { from = le-lesser _ _ _ (p .from) (q .from); to = greater-le _ _ _ (p .to) (q .to) }
+
+with-among : {r : Rows} (a : Rows) {ls : List Line} → Holds r a → Ends (On r) ls → Holds r (withLines a ls)
+unfolding withLines
+with-among a h no-lines = h
+with-among a {ls = l ∷ ls} h (and-line p q e) = with-among (around a (lineRows l)) (around-among h (line-among l p q)) e
+
+-- so rows that have all corners of a segment's joins hold its rows
+pub rows-among : {r : Rows} (s : Segment) → JoinHas (On r) (s .start) → JoinHas (On r) (s .end) → Holds r (drawnRows s)
+unfolding drawnRows edgesOf
+rows-among s a b = with-among (lineRows (edgesOf s .right)) (line-among (edgesOf s .right) (a .starting .right) (b .ending .right)) (drawn-on s a b)
+
+-- the rows of its box are among them, unless it is a skeleton
+pub box-among : (s : Segment) → isSkeleton s ≡ false → Holds (drawnRows s) (boxRows (boundingBox s))
+unfolding boundingBox union boxOf least most around
+box-among s e =
+    let right = lineRows (edgesOf s .right) in
+    let start = capLines (startCapsOf (s .start)) in
+    let end = capLines (endCapsOf (s .end)) in
+    let capped = withLines (withLines right start) end in
+    rw (e, perimeter-rows s e)
+    (around-among (holds-on (around-first capped (lineRows (edgesOf s .left))) (holds-on (with-holds (withLines right start) end) (with-holds right start))) (around-second capped (lineRows (edgesOf s .left))))
 
 -- every point of the lines is on one of the rows
 with-row : (r : Rows) (ls : List Line) {q : Point} → List·Memᴰ q (pointsOf ls) → HasRow (withLines r ls) (q .y)

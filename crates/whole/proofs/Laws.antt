@@ -48,6 +48,9 @@ lesser-one a b = one-of (ltZ b a) b a
 pub lesser-le : (a b : ℤ) → (lesser a b ≤ℤ a) × (lesser a b ≤ℤ b)
 lesser-le a b = lesser-by a b (ltZ b a) refl
 
+pub le-lesser : (x a b : ℤ) → x ≤ℤ a → x ≤ℤ b → x ≤ℤ lesser a b
+le-lesser x a b p q = ⊎-elim (λ e. rw e p) (λ e. rw e q) (lesser-one a b)
+
 greater-by : (a b : ℤ) (t : Bool) → ltZ a b ≡ t → (a ≤ℤ greater a b) × (b ≤ℤ greater a b)
 unfolding greater
 greater-by a b true e = rw e (omega linear)
