@@ -133,7 +133,7 @@ edges-within {k} l {width} offset near thin fits room = edges-more (edges-near k
 
 -- ---- width 0
 
-closed-fresh : (l : Line) (along : Parameters) → closed l along (freshEdge l) ≡ l
+pub closed-fresh : (l : Line) (along : Parameters) → closed l along (freshEdge l) ≡ l
 unfolding closed plus delta minus
 closed-fresh l along = simp (there-and-back (l .start .x) (l .end .x), there-and-back (l .start .y) (l .end .y))
 
