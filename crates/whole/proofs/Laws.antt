@@ -13,7 +13,7 @@ use Rattle.whole.specs.Number.{Within, isWithin, lesser, greater}
 use Rattle.whole.specs.Rounded.{rounded, Nearest}
 use Rattle.whole.proofs.Linear.{up, dn, linear, sum, opp, diff, times, abs-parts, abs-le, le-or-lt, eq-or-apart}
 use Rattle.whole.proofs.Bounds.{abs-neg, abs-mul}
-use Rattle.whole.proofs.Products.{negℤ-*ℤ}
+use Rattle.whole.proofs.Products.{negℤ-*ℤ, *ℤ-id}
 use Rattle.whole.proofs.Ring.{con, neg, _⊖_, _⊗_, _≈_, since, ring}
 
 -- ---- bounds
@@ -198,6 +198,10 @@ module _ (n d p q x : ℤ) (same : p *ℤ d ≡ n *ℤ q) where
 
   multiples : natAbs (x *ℤ q) * natAbs d ≡ natAbs (x *ℤ d) * natAbs q
   multiples = sym (abs-mul (x *ℤ q) d) ∙ ap natAbs (ring 3 (λ d q x. x ⊗ q ⊗ d ≈ x ⊗ d ⊗ q) refl d q x) ∙ abs-mul (x *ℤ d) q
+
+-- and to a whole number none but itself
+pub nearest-whole : {n x : ℤ} → Nearest n (pos 1) x → x ≡ n
+nearest-whole {n} {x} h = let off = rw (*ℤ-id x) at (h .near) in omega (linear, off, diff x n, abs-parts (x -ℤ n))
 
 pub nearest-ratio : (n d p q x : ℤ) → d ≢ pos 0 → q ≢ pos 0 → p *ℤ d ≡ n *ℤ q → Nearest n d x → Nearest p q x
 nearest-ratio n d p q x sd sq same h =
