@@ -3,12 +3,14 @@
 //! It knows no limits, save those of route files. An answer is `overflow` where an operation left
 //! i32, and `not i32` where a number of the question has no place in i32. Called with the word
 //! `places`, it also tells what overflowed and where:
-//! `overflow geometry/mod.rs:44:9: attempt to multiply with overflow`.
+//! `overflow geometry/mod.rs:44:9: attempt to multiply with overflow`. Called with the word
+//! `skeletons`, it asks nothing and looks for them (skeletons.rs).
 
 mod draw_target;
 mod geometry;
 mod primitives;
 mod route_file;
+mod skeletons;
 mod transform;
 
 use geometry::Point;
@@ -34,7 +36,12 @@ use std::{
 static LAST_PANIC: Mutex<String> = Mutex::new(String::new());
 
 fn main() -> io::Result<()> {
-    let tells_places = env::args().nth(1).as_deref() == Some("places");
+    let word = env::args().nth(1);
+    if word.as_deref() == Some("skeletons") {
+        skeletons::print();
+        return Ok(());
+    }
+    let tells_places = word.as_deref() == Some("places");
     panic::set_hook(Box::new(remember));
 
     let mut output = BufWriter::new(io::stdout().lock());

@@ -4,7 +4,6 @@ use mathlib.Core.Logic.{⊎-elim}
 use mathlib.Core.Bool.{Bool, true, false}
 use mathlib.Core.List.{List}
 use Prim.Native.Nat.{ℕ, zero, suc, _+_, _-_, _≤_, _<_}
-use native.Mathlib.Nat.{zero-add}
 use native.Mathlib.Numerals.{add-one}
 use native.Mathlib.Omega.{arith}
 use lib.IntN.{ℤ}
@@ -24,7 +23,7 @@ use Rattle.line_join.specs.Join.{startOf, endOf}
 use Rattle.thick_segment.specs.declared.Segment.{Segment}
 use Rattle.thick_segment.specs.declared.Rows.{Rows}
 use Rattle.thick_segment.specs.Segments.{isSkeleton, edgesOf, least, most, boxOf, union, boundingBox}
-use Rattle.thick_segment.specs.Rows.{rowsFrom, lineRows, boxRows, around, drawnRows}
+use Rattle.thick_segment.specs.Rows.{lineRows, boxRows, around, drawnRows}
 use Rattle.thick_segment.specs.Words.{HasRow, Holds}
 use Rattle.thick_segment.proofs.Drawn.{CornersHave, JoinHas, On}
 use Rattle.thick_segment.proofs.Lit.{around-first, around-second, holds-on, holds-row, skeleton-rows, rows-among, box-among}
@@ -34,9 +33,9 @@ use Rattle.route_joins.specs.Joins.{joinAt, joinOn, endPlace, segmentsOf, segme
 use Rattle.route_joins.proofs.Near.{place-inside, several-by}
 use Rattle.route_joins.proofs.Open.{first-join, last-join}
 use Rattle.route.specs.declared.RowRange.{RowRange}
-use Rattle.route.specs.Rows.{noRows, withAll}
+use Rattle.route.specs.Rows.{noRows, ends, withAll}
 use Rattle.route.specs.Answers.{drawRefusal, rowsAnswer}
-use Rattle.route.proofs.Bounds.{bounds}
+use Rattle.route.proofs.Bounds.{bounds, bounds-least}
 use Rattle.route.proofs.AllRows.{all-refusal, rows-bounds, rows-none-of, rows-refusal}
 use Rattle.route.proofs.Refused.{draw-none}
 use Rattle.box_rows.specs.Words.{boxed, boxRange, OneLine, Plain}
@@ -149,8 +148,11 @@ module _ (closed : Bool) (cs : List ℤ) (w : ℤ) (several : 2 ≤ pointCount c
 
 -- ---- so the rows of the drawn lines are those of the boxes
 
-same-range : {a b : RowRange} → a .refusal ≡ b .refusal → a .some ≡ b .some → a .first ≡ b .first → a .last ≡ b .last → a ≡ b
-same-range n some first last = rw (n, some, first, last)
+same-range : {a b : RowRange} → a .refusal ≡ b .refusal → a .some ≡ b .some → Holds (ends a) (ends b) → Holds (ends b) (ends a) → a ≡ b
+same-range {a} {b} n some p q =
+    let first : a .first ≡ b .first = omega (linear, p .from, q .from) in
+    let last : a .last ≡ b .last = omega (linear, p .to, q .to) in
+    rw (n, some, first, last)
 
 module _ (limits : Limits) (closed : Bool) (cs : List ℤ) (w : ℤ) (free : drawRefusal limits closed cs w ≡ 0) (plain : Plain closed cs w) where
   abbrev rows : RowRange
@@ -165,28 +167,10 @@ module _ (limits : Limits) (closed : Bool) (cs : List ℤ) (w : ℤ) (free : dra
       let b = rows-bounds limits closed cs w free h in
       let o = bounds (boxed closed cs w) (segmentCount closed cs) h in
       let several = several-by (pointCount cs) closed (draw-none limits closed cs w .0 free .0 .several) h in
-      let among = drawn-in closed cs w several plain {r = rowsFrom (old .first) (old .last)} (λ i g. record { from = o .first-holds i g; to = o .last-holds i g }) in
-      let first = b .first-met in
-      let last = b .last-met in
-      let top = o .first-met in
-      let bottom = o .last-met in
-      same-range (rows-refusal limits closed cs w ∙ free ∙ sym (all-refusal (noRows 0) (listFrom (boxed closed cs w) 0 (segmentCount closed cs)) refl)) (b .some ∙ sym (o .some))
-      (omega (
-        linear,
-        simp zero-add at (first .is),
-        among (first .at) (first .inside) .from,
-        top .is ∙ ap (λ i. boundingBox (segmentAt closed cs w i) .first .y) (zero-add (top .at)),
-        b .first-holds (top .at) (top .inside),
-        box-drawn (segmentAt closed cs w (top .at)) (plain .each (top .at) (top .inside)) .from,
-      ))
-      (omega (
-        linear,
-        simp zero-add at (last .is),
-        among (last .at) (last .inside) .to,
-        bottom .is ∙ ap (λ i. boundingBox (segmentAt closed cs w i) .last .y) (zero-add (bottom .at)),
-        b .last-holds (bottom .at) (bottom .inside),
-        box-drawn (segmentAt closed cs w (bottom .at)) (plain .each (bottom .at) (bottom .inside)) .to,
-      ))
+      let none = all-refusal (noRows 0) (listFrom (boxed closed cs w) 0 (segmentCount closed cs)) refl in
+      same-range (rows-refusal limits closed cs w ∙ free ∙ sym none) (b .some ∙ sym (o .some))
+      (bounds-least (boxed closed cs w) o (λ i g. holds-on (b .holds i g) (box-drawn (segmentAt closed cs w i) (plain .each i g))))
+      (bounds-least (λ i. drawnRows (segmentAt closed cs w i)) b (drawn-in closed cs w several plain (o .holds)))
 
   no-rows : segmentCount closed cs ≡ 0 → rows ≡ old
   unfolding boxRange withAll listFrom

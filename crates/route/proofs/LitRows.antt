@@ -12,7 +12,6 @@ use lib.Signed.{_≤ℤ_}
 use Rattle.whole.specs.Number.{Within}
 use Rattle.whole.specs.Places.{listFrom}
 use Rattle.whole.proofs.Laws.{within-true}
-use Rattle.whole.proofs.Linear.{linear}
 use Rattle.shapes.specs.declared.limits.Limits.{Limits}
 use Rattle.shapes.specs.declared.Span.{Span}
 use Rattle.shapes.specs.Spans.{isEmpty}
@@ -20,7 +19,7 @@ use Rattle.thick_segment.specs.declared.Rows.{Rows}
 use Rattle.thick_segment.specs.Segments.{spanOn}
 use Rattle.thick_segment.specs.Rows.{drawnRows}
 use Rattle.thick_segment.specs.Words.{HasRow}
-use Rattle.thick_segment.proofs.Lit.{point-row, ends-lit, row-dark}
+use Rattle.thick_segment.proofs.Lit.{holds-row, point-row, ends-lit, row-dark}
 use Rattle.board.specs.declared.Board.{Board}
 use Rattle.board.specs.Runs.{total, flat}
 use Rattle.board.specs.Boards.{boardOf, answerOf, told, toldTo, over}
@@ -59,7 +58,8 @@ module _ (limits : Limits) (closed : Bool) (cs : List ℤ) (w : ℤ) (free : dra
   segment-inside : {i : ℕ} {row : ℤ} → i < segmentCount closed cs → HasRow (drawnRows (segmentAt closed cs w i)) row → Inside rows row
   segment-inside {i} {row} h on =
       let b = rows-bounds limits closed cs w free (omega (arith, h)) in
-      record { some = b .some; from = omega (linear, b .first-holds i h, on .from); upto = omega (linear, b .last-holds i h, on .to) }
+      let in-all = holds-row (b .holds i h) on in
+      record { some = b .some; from = in-all .from; upto = in-all .to }
 
   -- wherever a line has a drawn point, the row is one of them
   pub drawn-inside : {row : ℤ} → Drawn closed cs w row → Inside rows row

@@ -13,13 +13,13 @@ use Rattle.whole.proofs.Linear.{linear, le-to, sum, diff, abs-parts, abs-le, no
 use Rattle.whole.proofs.Spans.{within-lesser, within-greater}
 use Rattle.whole.proofs.Laws.{lesser-le, le-greater}
 use Rattle.thick_segment.specs.declared.Rows.{Rows}
-use Rattle.thick_segment.specs.Rows.{rowsFrom, around}
+use Rattle.thick_segment.specs.Rows.{around}
 use Rattle.thick_segment.specs.Words.{RowsNear as SegmentRowsNear}
 use Rattle.thick_segment.proofs.Lit.{rows-near as drawn-near, rows-ordered}
 use Rattle.route.specs.declared.Joins.{Joins}
 use Rattle.route.specs.declared.RowRange.{RowRange}
 use Rattle.route.specs.Joined.{Kept, segmentsIn, segmentIn}
-use Rattle.route.specs.Rows.{rangeOf, withRows, withAll, drawnIn, rowsIn, RowsNear, rowCount, rowAt}
+use Rattle.route.specs.Rows.{rangeOf, ends, withRows, withAll, drawnIn, rowsIn, RowsNear, rowCount, rowAt}
 use Rattle.route.proofs.Kept.{segment-near}
 
 -- ---- rows widened by those of segments
@@ -34,7 +34,7 @@ module _ {k : ℕ} where
   unfolding withRows around
   with-near {range} {r} near fits = by (range .some)
     where
-      by : (t : Bool) → RowsNear k (cond t (rangeOf (around (rowsFrom (range .first) (range .last)) r)) (rangeOf r))
+      by : (t : Bool) → RowsNear k (cond t (rangeOf (around (ends range) r)) (rangeOf r))
       by true =
           record {
             ordered = omega (linear, lesser-le (range .first) (r .first) .0, le-greater (range .last) (r .last) .0, near .ordered);

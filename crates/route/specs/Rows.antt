@@ -41,9 +41,12 @@ noRows n = record { refusal = n; some = false; first = pos 0; last = pos 0 }
 abbrev pub rangeOf : Rows → RowRange
 rangeOf r = record { refusal = 0; some = true; first = r .first; last = r .last }
 
+abbrev pub ends : RowRange → Rows
+ends range = rowsFrom (range .first) (range .last)
+
 -- rows widened by those of one segment more, and of several
 unfoldable pub withRows : RowRange → Rows → RowRange
-withRows range r = cond (range .some) (rangeOf (around (rowsFrom (range .first) (range .last)) r)) (rangeOf r)
+withRows range r = cond (range .some) (rangeOf (around (ends range) r)) (rangeOf r)
 
 unfoldable pub withAll : RowRange → List Rows → RowRange
 withAll range [] = range

@@ -3,13 +3,13 @@ use mathlib.Core.Path.{_≡_, ap, _∙_}
 use borrow.Author.Needs.{needs}
 use mir.Facts.{toZ-ofZ}
 use mir.Syntax.{w64}
-use Rattle.thick_segment.specs.Rows.{rowsFrom, around}
-use Rattle.route.specs.Rows.{withRows}
+use Rattle.thick_segment.specs.Rows.{around}
+use Rattle.route.specs.Rows.{ends, withRows}
 use Rattle.route.proofs.inner.with_rows.Statement.{statement}
 use Rattle.route.proofs.inner.with_rows.Tie as tie
 
 -- the rows around those so far and the segment's
-wide : (c : tie.After-around) → let a = c .before .before .before .args in c .around .result ≡ around (rowsFrom (a .range .first) (a .range .last)) (a .rows)
+wide : (c : tie.After-around) → let a = c .before .before .before .args in c .around .result ≡ around (ends (a .range)) (a .rows)
 wide c =
     let r = c .before .before .before .args .range in
     c .around .ensures ∙ rw (toZ-ofZ {w = w64} {z = r .first} (search needs), toZ-ofZ {w = w64} {z = r .last} (search needs))
