@@ -92,6 +92,7 @@ fn room() -> Vec<i64> {
     vec![0; 512]
 }
 
+/// The rows that every side draws: those of the segments' boxes, as the crate takes them.
 fn rows_of(route: &Route) -> Vec<i64> {
     let boxes = segments(route).into_iter().map(|segment| segment.edges_bounding_box());
     let ends = boxes.map(|found| (found.top_left.y, found.top_left.y + found.size.height as i32));

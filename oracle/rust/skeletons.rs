@@ -1,13 +1,15 @@
-//! Looks for skeletons from width 2 on: bends whose two corners `first_edge_end` are one point z,
+//! Looks for skeletons from width 2 on: joins whose two corners `first_edge_end` are one point z,
 //! with strokes on both sides of their line. Edges are taken for endless lines here, and points are
 //! seen from the bend.
 //!
-//! The cell of a point is the square of side 1 around it, its border included: what is rounded to
-//! the point lies in it. Either z is the end of an edge of the first leg, and then the other edge
-//! meets the cell of that end. Or both corners are rounded crossings, so that both edges of the first
-//! leg and both of the second meet the cell of z; then z is the tip of a miter that is kept (of one
-//! that is cut the end of an edge is taken), and lies within 2·width of the bend. At width 2 the right
-//! edges are the legs, whose crossing and ends are the bend, and so is z. So each leg can be tried
+//! Where a route starts, both edges of its first leg then start in one point.
+//!
+//! At a bend: the cell of a point is the square of side 1 around it, its border included, and what is
+//! rounded to the point lies in it. Either z is the end of an edge of the first leg, and then the other
+//! edge meets the cell of that end. Or both corners are rounded crossings, so that both edges of the
+//! first leg and both of the second meet the cell of z; then z is the tip of a miter that is kept (of
+//! one that is cut the end of an edge is taken), and lies within 2·width of the bend. At width 2 the
+//! right edges are the legs, whose crossing and ends are the bend, and so is z. So each leg can be tried
 //! alone, and inside the limits there are only so many; where both kinds of legs are found they are
 //! tried together.
 
@@ -31,8 +33,9 @@ struct Edges {
 /// Edges by the points z that they have in common, as x and y.
 type ByPoint = BTreeMap<(i32, i32), Vec<Edges>>;
 
-/// A line for each width: how many legs have an edge that comes to the end of the other; the legs with a
-/// point z at their end, and at their start; and how many bends of these are skeletons.
+/// A line for each width: how many legs have edges that start in one point, or an edge that comes to the
+/// end of the other; the legs with a point z at their end, and at their start; and how many of the former
+/// make a skeleton with one of the latter.
 pub fn print() {
     for width in 2..=64 {
         let (mut close, mut ends, mut starts) = (0, ByPoint::new(), ByPoint::new());
@@ -78,7 +81,9 @@ fn seen_from_end(edges: &Edges) -> Edges {
 fn is_close(edges: &Edges, width: i32) -> bool {
     let Edges { left, right, .. } = edges;
     let is_met = || meets(right, left.end) || meets(left, right.end);
-    left.end == right.end || width > 2 && has_length(edges) && is_met()
+    left.start == right.start
+        || left.end == right.end
+        || width > 2 && has_length(edges) && is_met()
 }
 
 fn has_length(edges: &Edges) -> bool {
