@@ -3,7 +3,7 @@ use mathlib.Core.Path.{_≡_, refl, sym, ap, _∙_}
 use mathlib.Core.Logic.{⊎-elim}
 use mathlib.Core.Bool.{Bool, true, false}
 use mathlib.Core.List.{List}
-use Prim.Native.Nat.{ℕ, zero, suc, _+_, _-_, _≤_, _<_}
+use Prim.Native.Nat.{ℕ, zero, suc, _-_, _≤_, _<_}
 use native.Mathlib.Numerals.{add-one}
 use native.Mathlib.Omega.{arith}
 use lib.IntN.{ℤ}
@@ -14,20 +14,16 @@ use Rattle.whole.proofs.Columns.{greater-le}
 use Rattle.whole.proofs.Laws.{lesser-le, le-lesser, le-greater}
 use Rattle.whole.proofs.Linear.{linear, le-or-lt}
 use Rattle.shapes.specs.declared.limits.Limits.{Limits}
-use Rattle.shapes.specs.declared.Point.{Point}
 use Rattle.shapes.specs.declared.Line.{Line}
-use Rattle.shapes.specs.declared.Offset.the-variants.{None}
-use Rattle.line_join.specs.declared.Corners.{Corners}
-use Rattle.line_join.specs.declared.Join.{Join}
 use Rattle.line_join.specs.Join.{startOf, endOf}
 use Rattle.thick_segment.specs.declared.Segment.{Segment}
 use Rattle.thick_segment.specs.declared.Rows.{Rows}
 use Rattle.thick_segment.specs.Segments.{isSkeleton, edgesOf, least, most, boxOf, union, boundingBox}
 use Rattle.thick_segment.specs.Rows.{lineRows, boxRows, around, drawnRows}
-use Rattle.thick_segment.specs.Words.{HasRow, Holds}
+use Rattle.thick_segment.specs.Words.{Holds}
 use Rattle.thick_segment.proofs.Drawn.{CornersHave, JoinHas, On}
 use Rattle.thick_segment.proofs.Lit.{around-first, around-second, holds-on, holds-row, skeleton-rows, rows-among, box-among}
-use Rattle.coordinates.specs.Points.{pointAt, pointCount, placeBefore}
+use Rattle.coordinates.specs.Points.{pointCount, placeBefore}
 use Rattle.coordinates.proofs.Places.{before-inside, before-after}
 use Rattle.route_joins.specs.Joins.{joinAt, joinOn, endPlace, segmentsOf, segmentAt, segmentOf, segmentCount}
 use Rattle.route_joins.proofs.Near.{place-inside, several-by}

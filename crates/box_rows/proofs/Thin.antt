@@ -1,12 +1,12 @@
 -- At widths 0 and 1 both edges of every segment lie on one line, and so the rows are those of the boxes. Assumes nothing.
 use mathlib.Core.Path.{_≡_, refl, sym, ap, _∙_}
 use mathlib.Core.Logic.{_⊎_, ⊎-elim}
-use mathlib.Core.Bool.{Bool, true, false, cond}
+use mathlib.Core.Bool.{Bool, true, false}
 use mathlib.Core.List.{List}
-use Prim.Native.Nat.{ℕ, _+_, _-_, _≤_, _<_}
+use Prim.Native.Nat.{ℕ, _+_, _-_, _≤_}
 use native.Mathlib.Omega.{arith}
 use lib.Dec.{eqb}
-use lib.IntN.{ℤ, pos, natAbs, _-ℤ_, _*ℤ_}
+use lib.IntN.{ℤ, pos, natAbs, _*ℤ_}
 use Rattle.whole.proofs.Laws.{nearest-whole}
 use Rattle.whole.proofs.Linear.{linear}
 use Rattle.whole.proofs.Ring.{con, _⊕_, _⊖_, _⊗_, _≈_, ring}
@@ -25,18 +25,16 @@ use Rattle.intersection_params.specs.declared.Solution.{Solution}
 use Rattle.intersection_params.specs.declared.Intersection.{Intersection}
 use Rattle.intersection_params.specs.declared.Intersection.the-variants.{At, Colinear, Refused}
 use Rattle.intersection_params.specs.Crossing.{nearlyColinear}
-use Rattle.intersection_params.specs.Words.{TrueCrossing, IsDrawn}
+use Rattle.intersection_params.specs.Words.{TrueCrossing}
 use Rattle.extents.specs.declared.Edges.{Edges}
 use Rattle.extents.specs.Edges.{extentsOf}
 use Rattle.extents.proofs.Laws.{edges-at-zero}
 use Rattle.extents.proofs.One.{edges-at-one}
 use Rattle.line_join.specs.declared.Join.{Join}
-use Rattle.line_join.specs.declared.Corners.{Corners}
 use Rattle.line_join.specs.declared.Kind.{Kind}
 use Rattle.line_join.specs.declared.Kind.the-variants as kind
 use Rattle.line_join.specs.Miter.{miterLimit, reaches}
 use Rattle.line_join.specs.Join.{meet, cornersOf, outer, overlapping, plain, bentAt, bentLeft, bentOf, startOf, endOf, joinOf}
-use Rattle.line_join.specs.Words.{Ended}
 use Rattle.line_join.proofs.Laws.{reaches-exactly}
 use Rattle.line_join.proofs.Meeting.{meet-drawn, meet-ended}
 use Rattle.coordinates.specs.Points.{pointAt, pointCount, placeBefore, placeAfter}

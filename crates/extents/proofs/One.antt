@@ -7,7 +7,7 @@ use native.Mathlib.Omega.{arith}
 use borrow.Author.Tests.{le-ltb, lt-ltb}
 use lib.Dec.{lit≤}
 use lib.IntN.{ℤ, pos, natAbs, _+ℤ_, _*ℤ_}
-use lib.Signed.{ltZ, quotZ, _≤ℤ_}
+use lib.Signed.{quotZ}
 use Rattle.whole.proofs.Linear.{linear, opp}
 use Rattle.whole.proofs.Orders.{ordered}
 use Rattle.whole.proofs.Steps.{square-is}
@@ -19,7 +19,7 @@ use Rattle.shapes.specs.declared.Offset.{Offset}
 use Rattle.shapes.specs.Limits.{lineLimit, thickLimit}
 use Rattle.shapes.specs.Shape.{LineNear, squaredLength, dotProduct}
 use Rattle.bresenham.specs.Walk.{along, parametersAlong, nextAll, previousAll}
-use Rattle.bresenham.proofs.Laws.{isSteep, longer, shorter, Sides, sides, parameters-are}
+use Rattle.bresenham.proofs.Laws.{isSteep, longer, shorter, sides, parameters-are}
 use Rattle.parallels.specs.declared.Plan.{Plan}
 use Rattle.parallels.specs.declared.Parallels.{Parallels}
 use Rattle.parallels.specs.declared.Parallel.{Parallel}
@@ -29,7 +29,6 @@ use Rattle.parallels.specs.declared.Yielded.{Yielded}
 use Rattle.parallels.specs.Parallels.{due, firstSide, flankAt, sided, freshFlank, turnOf, nextParallel, aimed, thickness, planAlong, planOf, parallelsStart, isDone, grown, yieldOf, parallelsOf, Sound, Begun}
 use Rattle.parallels.proofs.Plans.{sound-plan}
 use Rattle.parallels.proofs.Room.{begun-start}
-use Rattle.extents.specs.declared.Edges.{Edges}
 use Rattle.extents.specs.Edges.{placed, seen, lasts, freshEdge, freshEnds, extentsOf}
 use Rattle.extents.proofs.Laws.{closed-fresh, lasts-end, lasts-turn}
 

@@ -1,6 +1,6 @@
 -- Which rows of a route are lit: none outside its rows, and its first and its last are. Assumes nothing.
-use mathlib.Core.Path.{_≡_, refl, sym, ap, _∙_}
-use mathlib.Core.Bool.{Bool, true, false}
+use mathlib.Core.Path.{_≡_, ap, _∙_}
+use mathlib.Core.Bool.{Bool, true}
 use mathlib.Core.List.{List, []}
 use Prim.Native.Nat.{ℕ, zero, suc, _+_, _<_}
 use native.Mathlib.Nat.{zero-add}
@@ -15,7 +15,6 @@ use Rattle.whole.proofs.Laws.{within-true}
 use Rattle.shapes.specs.declared.limits.Limits.{Limits}
 use Rattle.shapes.specs.declared.Span.{Span}
 use Rattle.shapes.specs.Spans.{isEmpty}
-use Rattle.thick_segment.specs.declared.Rows.{Rows}
 use Rattle.thick_segment.specs.Segments.{spanOn}
 use Rattle.thick_segment.specs.Rows.{drawnRows}
 use Rattle.thick_segment.specs.Words.{HasRow}

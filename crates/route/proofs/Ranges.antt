@@ -7,7 +7,7 @@ use native.Mathlib.Omega.{arith}
 use lib.Dec.{T}
 use lib.IntN.{ℤ, pos, natAbs, _+ℤ_, _-ℤ_}
 use lib.Signed.{_≤ℤ_, nonNeg}
-use Rattle.whole.specs.Number.{Within, lesser, greater}
+use Rattle.whole.specs.Number.{Within}
 use Rattle.whole.specs.Places.{listFrom}
 use Rattle.whole.proofs.Linear.{linear, le-to, sum, diff, abs-parts, abs-le, not-negative, none-below}
 use Rattle.whole.proofs.Spans.{within-lesser, within-greater}

@@ -6,7 +6,7 @@ use mathlib.Core.List.{List, [], _∷_, _++_, List·Memᴰ, Memᴰ·append-left,
 use Prim.Native.Nat.{ℕ}
 use lib.IntN.{ℤ}
 use lib.Signed.{_≤ℤ_}
-use Rattle.whole.specs.Number.{Within, lesser, greater}
+use Rattle.whole.specs.Number.{lesser, greater}
 use Rattle.whole.proofs.Laws.{lesser-le, le-lesser, le-greater, lesser-one, greater-one, lesser-first, greater-first}
 use Rattle.whole.proofs.Columns.{greater-le}
 use Rattle.whole.proofs.Linear.{linear}
