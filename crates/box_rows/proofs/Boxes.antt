@@ -7,8 +7,8 @@ use Prim.Native.Nat.{ℕ, zero, suc, _-_, _≤_, _<_}
 use native.Mathlib.Numerals.{add-one}
 use native.Mathlib.Omega.{arith}
 use lib.IntN.{ℤ}
-use Rattle.whole.specs.Places.{listFrom}
 use lib.Signed.{_≤ℤ_}
+use Rattle.whole.specs.Places.{listFrom}
 use Rattle.whole.specs.Number.{lesser, greater}
 use Rattle.whole.proofs.Columns.{greater-le}
 use Rattle.whole.proofs.Laws.{lesser-le, le-lesser, le-greater}
@@ -101,7 +101,7 @@ module _ (s : Segment) (plain : isSkeleton s ≡ true → OneLine s) where
 
 -- ---- a route: rows that hold all boxes have all corners of all joins, and so they hold all drawn lines
 
-module _ (closed : Bool) (cs : List ℤ) (w : ℤ) (several : 2 ≤ pointCount cs) (plain : Plain closed cs w) {r : Rows} (all : (i : ℕ) → i < segmentCount closed cs → Holds r (boxed closed cs w i)) where
+module _ (closed : Bool) (cs : List ℤ) (w : ℤ) (plain : Plain closed cs w) {r : Rows} (all : (i : ℕ) → i < segmentCount closed cs → Holds r (boxed closed cs w i)) where
   start-in : (i : ℕ) → i < segmentCount closed cs → CornersHave (On r) (joinAt closed cs w i .starting)
   unfolding segmentOf
   start-in i h = starts-in (segmentAt closed cs w i) (plain .each i h) (all i h)
@@ -134,13 +134,13 @@ joins-by false cs w several starts ends (suc k) h =
       starting = ⊎-elim (λ more. starts (suc k) (omega arith)) (λ none. rw (end-join cs w k (omega arith)) last) (le-or-lt (suc (suc (suc k))) (pointCount cs));
     }
 
-module _ (closed : Bool) (cs : List ℤ) (w : ℤ) (several : 2 ≤ pointCount cs) (plain : Plain closed cs w) {r : Rows} (all : (i : ℕ) → i < segmentCount closed cs → Holds r (boxed closed cs w i)) where
-  join-in : (i : ℕ) → i < pointCount cs → JoinHas (On r) (joinAt closed cs w i)
-  join-in = joins-by closed cs w several (start-in closed cs w several plain all) (end-in closed cs w several plain all)
-
-  drawn-in : (i : ℕ) → i < segmentCount closed cs → Holds r (drawnRows (segmentAt closed cs w i))
+module _ (closed : Bool) (cs : List ℤ) (w : ℤ) (several : 2 ≤ pointCount cs) (plain : Plain closed cs w) where
+  drawn-in : {r : Rows} → ((i : ℕ) → i < segmentCount closed cs → Holds r (boxed closed cs w i)) → (i : ℕ) → i < segmentCount closed cs → Holds r (drawnRows (segmentAt closed cs w i))
   unfolding segmentCount segmentOf
-  drawn-in i h = let p = place-inside closed h in rows-among (segmentAt closed cs w i) (join-in i (p .0)) (join-in (endPlace closed (pointCount cs) i) (p .1))
+  drawn-in all i h =
+      let has = joins-by closed cs w several (start-in closed cs w plain all) (end-in closed cs w plain all) in
+      let p = place-inside closed h in
+      rows-among (segmentAt closed cs w i) (has i (p .0)) (has (endPlace closed (pointCount cs) i) (p .1))
 
 -- ---- so the rows of the drawn lines are those of the boxes
 

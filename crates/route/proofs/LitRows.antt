@@ -1,6 +1,6 @@
 -- Which rows of a route are lit: none outside its rows, and its first and its last are. Assumes nothing.
-use mathlib.Core.Path.{_≡_, ap, _∙_}
-use mathlib.Core.Bool.{Bool, true}
+use mathlib.Core.Path.{_≡_, refl, ap, _∙_}
+use mathlib.Core.Bool.{Bool, true, false, _&&_}
 use mathlib.Core.List.{List, []}
 use Prim.Native.Nat.{ℕ, zero, suc, _+_, _<_}
 use native.Mathlib.Nat.{zero-add}
@@ -8,17 +8,20 @@ use native.Mathlib.Omega.{arith}
 use borrow.Author.Tests.{le-leb}
 use lib.IntN.{ℤ, pos}
 use lib.ListN.{length}
-use lib.Signed.{_≤ℤ_}
+use lib.Signed.{leZ, _≤ℤ_}
 use Rattle.whole.specs.Number.{Within}
 use Rattle.whole.specs.Places.{listFrom}
 use Rattle.whole.proofs.Laws.{within-true}
+use Rattle.whole.proofs.Tests.{and-iff, clash, else-true, le-iff}
 use Rattle.shapes.specs.declared.limits.Limits.{Limits}
 use Rattle.shapes.specs.declared.Span.{Span}
+use Rattle.shapes.specs.Shape.{pointOf}
 use Rattle.shapes.specs.Spans.{isEmpty}
 use Rattle.thick_segment.specs.Segments.{spanOn}
 use Rattle.thick_segment.specs.Rows.{drawnRows}
 use Rattle.thick_segment.specs.Words.{HasRow}
-use Rattle.thick_segment.proofs.Lit.{holds-row, point-row, ends-lit, row-dark}
+use Rattle.thick_segment.proofs.Laws.{span-ends}
+use Rattle.thick_segment.proofs.Lit.{holds-row, point-row, ends-lit, row-dark, row-bright}
 use Rattle.board.specs.declared.Board.{Board}
 use Rattle.board.specs.Runs.{total, flat}
 use Rattle.board.specs.Boards.{boardOf, answerOf, told, toldTo, over}
@@ -49,6 +52,19 @@ fresh-listed : (row : ℤ) (out : List ℤ) → (told (boardOf row []) (length o
 unfolding told toldTo over total flat
 fresh-listed row out = (rw (live-of row [], le-leb 0 (length out) (omega arith)), rw (live-of row [], le-leb 0 (length out) (omega arith)))
 
+-- ---- a row has a drawn point exactly where some segment has a column on it
+
+module _ {closed : Bool} {cs : List ℤ} {w row : ℤ} where
+  pub drawn-lit : (d : Drawn closed cs w row) → isEmpty (spanOn (segmentAt closed cs w (d .place)) row) ≡ false
+  drawn-lit d = row-bright (segmentAt closed cs w (d .place)) row (d .lit)
+
+  pub lit-drawn : (i : ℕ) → i < segmentCount closed cs → isEmpty (spanOn (segmentAt closed cs w i) row) ≡ false → Drawn closed cs w row
+  lit-drawn i h some =
+      let s = segmentAt closed cs w i in
+      record { place = i; placed = h; lit = record { point = pointOf (spanOn s row .start) row; among = span-ends s row some .0; on-row = refl } }
+
+-- ---- the rows of a route that nothing refuses
+
 module _ (limits : Limits) (closed : Bool) (cs : List ℤ) (w : ℤ) (free : drawRefusal limits closed cs w ≡ 0) where
   abbrev rows : RowRange
   rows = rowsAnswer limits closed cs w
@@ -60,7 +76,7 @@ module _ (limits : Limits) (closed : Bool) (cs : List ℤ) (w : ℤ) (free : dra
       let in-all = holds-row (b .holds i h) on in
       record { some = b .some; from = in-all .from; upto = in-all .to }
 
-  -- wherever a line has a drawn point, the row is one of them
+  -- wherever a drawn line has a point, the row is one of them
   pub drawn-inside : {row : ℤ} → Drawn closed cs w row → Inside rows row
   drawn-inside d = segment-inside (d .placed) (rw (d .lit .on-row) at (point-row (segmentAt closed cs w (d .place)) (d .lit .among)))
 
@@ -76,9 +92,14 @@ module _ (limits : Limits) (closed : Bool) (cs : List ℤ) (w : ℤ) (free : dra
         let m = rows-bounds limits closed cs w free some .last-met in
         record { place = m .at; placed = m .inside; lit = rw (m .is, zero-add (m .at)) (ends-lit (segmentAt closed cs w (m .at)) .last-lit) }
 
-    -- so no fewer rows have all drawn points
-    pub rows-least : {first last : ℤ} → ((row : ℤ) → Drawn closed cs w row → (first ≤ℤ row) × (row ≤ℤ last)) → (first ≤ℤ rows .first) × (rows .last ≤ℤ last)
-    rows-least all = (all (rows .first) first-drawn .0, all (rows .last) last-drawn .1)
+    -- so they are the least: others outside of which no segment has a column begin no later, and end no earlier
+    pub rows-least : (first last : ℤ) → ((row : ℤ) → ((first ≤ℤ row) × (row ≤ℤ last) → ⊥) → (i : ℕ) → i < segmentCount closed cs → isEmpty (spanOn (segmentAt closed cs w i) row) ≡ true) → (first ≤ℤ rows .first) × (rows .last ≤ℤ last)
+    rows-least first last dark = (between first-drawn .0, between last-drawn .1)
+      where
+        between : {row : ℤ} → Drawn closed cs w row → (first ≤ℤ row) × (row ≤ℤ last)
+        between {row} d =
+            let test = and-iff (leZ first row) (leZ row last) (le-iff first row) (le-iff row last) in
+            test .0 (else-true (leZ first row && leZ row last) (λ out. clash (dark row (λ in-between. clash (test .1 in-between) out) (d .place) (d .placed)) (drawn-lit d)))
 
   -- ---- a row that is none of them
 

@@ -14,8 +14,8 @@ use Rattle.whole.proofs.Spans.{within-lesser, within-greater}
 use Rattle.whole.proofs.Laws.{lesser-le, le-greater}
 use Rattle.thick_segment.specs.declared.Rows.{Rows}
 use Rattle.thick_segment.specs.Rows.{around}
-use Rattle.thick_segment.specs.Words.{RowsNear as SegmentRowsNear}
-use Rattle.thick_segment.proofs.Lit.{rows-near as drawn-near, rows-ordered}
+use Rattle.thick_segment.specs.Words.{EndsNear}
+use Rattle.thick_segment.proofs.Lit.{drawn-rows-near, rows-ordered}
 use Rattle.route.specs.declared.Joins.{Joins}
 use Rattle.route.specs.declared.RowRange.{RowRange}
 use Rattle.route.specs.Joined.{Kept, segmentsIn, segmentIn}
@@ -26,7 +26,7 @@ use Rattle.route.proofs.Kept.{segment-near}
 
 -- rows that others may be widened by
 record Fits (k : ℕ) (r : Rows) : Type 0 where
-  near : SegmentRowsNear k r
+  near : EndsNear k r
   ordered : r .first ≤ℤ r .last
 
 module _ {k : ℕ} where
@@ -54,7 +54,7 @@ module _ {k : ℕ} where
   unfolding rowsIn
   rows-near {route} kept =
       all-near (drawnIn route) 0 (segmentsIn route)
-      (λ i h. rw (zero-add i) (record { near = drawn-near (segmentIn route i) (segment-near kept h); ordered = rows-ordered (segmentIn route i) }))
+      (λ i h. rw (zero-add i) (record { near = drawn-rows-near (segmentIn route i) (segment-near kept h); ordered = rows-ordered (segmentIn route i) }))
       (record { ordered = omega linear; first-near = record { bound = omega arith }; last-near = record { bound = omega arith } })
 
 -- ---- the rows between

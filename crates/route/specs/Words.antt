@@ -1,5 +1,5 @@
 -- What 01 says of a route's row in words: the spans of its segments in walk order, when they need more than 32 runs on the way, and what
--- a listing tells of them; and which rows are lit.
+-- a listing tells of them; and, for 02's K8, which rows have a drawn point.
 use mathlib.Core.Path.{_≡_}
 use mathlib.Core.Bool.{Bool, true}
 use mathlib.Core.List.{List, [], _∷_, _++_}

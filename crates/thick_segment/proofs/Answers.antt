@@ -18,15 +18,15 @@ use Rattle.shapes.specs.Spans.{SpanSound}
 use Rattle.thick_segment.specs.declared.Segment.{Segment}
 use Rattle.thick_segment.specs.Segments.{SegmentNear, isSegmentNear, isSkeleton, edgesOf, boundingBox, rowsOf, perimeterOf, countOf, spanOn}
 use Rattle.thick_segment.specs.Rows.{rowsFrom, boxRows, drawnRows}
-use Rattle.thick_segment.specs.Words.{HasRow, RowsNear}
+use Rattle.thick_segment.specs.Words.{HasRow, EndsNear}
 use Rattle.thick_segment.specs.declared.Rows.{Rows}
-use Rattle.thick_segment.specs.Answers.{noEdges, noBox, spanned, skeletonAnswer, edgesAnswer, boxAnswer, perimeterAnswer, countAnswer, rowsAnswer, segmentRefusal, spanAnswer}
+use Rattle.thick_segment.specs.Answers.{noEdges, noBox, spanned, skeletonAnswer, edgesAnswer, boxAnswer, perimeterAnswer, countAnswer, drawnRowsAnswer, segmentRefusal, spanAnswer}
 use Rattle.thick_segment.proofs.Refused.{segment-near-iff, segment-none}
 use Rattle.thick_segment.proofs.Laws.{span-sound, box-near}
-use Rattle.thick_segment.proofs.Lit.{rows-near}
+use Rattle.thick_segment.proofs.Lit.{drawn-rows-near}
 
 -- what lies between two rows within the limit is within it
-rows-within : {k : ℕ} {r : Rows} {y : ℤ} → RowsNear k r → HasRow r y → Within y k
+rows-within : {k : ℕ} {r : Rows} {y : ℤ} → EndsNear k r → HasRow r y → Within y k
 rows-within near row =
     within-of (omega (linear, within-low (near .first-near), row .from)) (omega (linear, within-high (near .last-near), row .to))
 
@@ -66,12 +66,12 @@ module _ (k : ℕ) (s : Segment) where
   unfolding perimeterAnswer
   perimeter-chosen = chosen (isSegmentNear k s) _ _ (segment-near-iff k s)
 
-  pub rows-chosen : Chosen (SegmentNear k s) (rowsAnswer k s) (record { refusal = 0; rows = drawnRows s }) (record { refusal = 5; rows = rowsFrom (pos 0) (pos 0) })
-  unfolding rowsAnswer
-  rows-chosen = chosen (isSegmentNear k s) _ _ (segment-near-iff k s)
+  pub drawn-rows-chosen : Chosen (SegmentNear k s) (drawnRowsAnswer k s) (record { refusal = 0; rows = drawnRows s }) (record { refusal = 5; rows = rowsFrom (pos 0) (pos 0) })
+  unfolding drawnRowsAnswer
+  drawn-rows-chosen = chosen (isSegmentNear k s) _ _ (segment-near-iff k s)
 
-  pub rows-refused : (rowsAnswer k s .refusal ≡ 5) ↔ (SegmentNear k s → ⊥)
-  rows-refused = chosen-exactly (λ v. v .refusal) refl refl (lit< tt) rows-chosen
+  pub drawn-rows-refused : (drawnRowsAnswer k s .refusal ≡ 5) ↔ (SegmentNear k s → ⊥)
+  drawn-rows-refused = chosen-exactly (λ v. v .refusal) refl refl (lit< tt) drawn-rows-chosen
 
   -- ---- every row of an accepted segment's box, and of its drawn lines, is within the rows
 
@@ -88,8 +88,8 @@ module _ (k : ℕ) (s : Segment) where
       let box = box-near s near in
       rows-within (record { first-near = box .first-near .y-near; last-near = box .last-near .y-near }) (rw (box-chosen .holds near) at h)
 
-  pub rows-inside : rowsAnswer k s .refusal ≡ 0 → (y : ℤ) → HasRow (rowsAnswer k s .rows) y → Within y k
-  rows-inside e y h = let near = accepted (λ v. v .refusal) rows-chosen refl e in rows-within (rows-near s near) (rw (rows-chosen .holds near) at h)
+  pub rows-inside : drawnRowsAnswer k s .refusal ≡ 0 → (y : ℤ) → HasRow (drawnRowsAnswer k s .rows) y → Within y k
+  rows-inside e y h = let near = accepted (λ v. v .refusal) drawn-rows-chosen refl e in rows-within (drawn-rows-near s near) (rw (drawn-rows-chosen .holds near) at h)
 
   -- ---- the span
 

@@ -26,7 +26,7 @@ use Rattle.thick_segment.specs.declared.Segment.{Segment}
 use Rattle.thick_segment.specs.declared.Rows.{Rows}
 use Rattle.thick_segment.specs.Segments.{SegmentNear, isSkeleton, capLines, edgesOf, least, most, boxOf, union, boundingBox, drawn, spanOn}
 use Rattle.thick_segment.specs.Rows.{lineRows, boxRows, around, withLines, drawnRows}
-use Rattle.thick_segment.specs.Words.{pointsOf, drawnPoints, HasRow, Holds, Lit, LitEnds, RowsNear}
+use Rattle.thick_segment.specs.Words.{pointsOf, drawnPoints, HasRow, Holds, Lit, LitEnds, EndsNear}
 use Rattle.thick_segment.proofs.Drawn.{JoinHas, Ends, no-lines, and-line, On, drawn-near, drawn-on}
 use Rattle.thick_segment.proofs.Laws.{span-empty}
 use Rattle.thick_segment.proofs.Scanned.{Each, none, more}
@@ -77,7 +77,6 @@ perimeter-rows s e =
     let start = capLines (startCapsOf (s .start)) in
     let end = capLines (endCapsOf (s .end)) in
     let edges = edgesOf s .right ∷ edgesOf s .left ∷ [] in
-    let capped = withLines (withLines right start) end in
     rw e
     (with-append right start (end ++ edges) ∙ with-append (withLines right start) end edges
     ∙ ap (λ r. around r (lineRows (edgesOf s .left))) (held (holds-on (with-holds (withLines right start) end) (with-holds right start))))
@@ -194,7 +193,7 @@ module _ (s : Segment) where
       let last = ends-lit .last-lit in
       record { from = rw (first .on-row) at (all (first .point) (first .among) .from); to = rw (last .on-row) at (all (last .point) (last .among) .to) }
 
-  -- a row outside has no column, and the first and the last have one
+  -- a row outside has no column, and one with a drawn point has some
   pub row-dark : (row : ℤ) → (HasRow (drawnRows s) row → ⊥) → isEmpty (spanOn s row) ≡ true
   row-dark row off = span-empty s row .1 (λ q m on. off (rw on at (point-row m)))
 
@@ -206,7 +205,7 @@ module _ (s : Segment) where
 
 -- ---- as near as the joins' corners
 
-with-near : {k : ℕ} (r : Rows) (ls : List Line) → RowsNear k r → Each k ls → RowsNear k (withLines r ls)
+with-near : {k : ℕ} (r : Rows) (ls : List Line) → EndsNear k r → Each k ls → EndsNear k (withLines r ls)
 unfolding withLines around
 with-near r [] near none = near
 with-near r (l ∷ ls) near (more line each) =
@@ -217,9 +216,9 @@ with-near r (l ∷ ls) near (more line each) =
     })
     each
 
-pub rows-near : {k : ℕ} (s : Segment) → SegmentNear k s → RowsNear k (drawnRows s)
+pub drawn-rows-near : {k : ℕ} (s : Segment) → SegmentNear k s → EndsNear k (drawnRows s)
 unfolding drawnRows edgesOf
-rows-near s h =
+drawn-rows-near s h =
     let a = h .start-near .starting-near .right-near .y-near in
     let b = h .end-near .ending-near .right-near .y-near in
     with-near (lineRows (edgesOf s .right)) (drawn s) (record { first-near = within-lesser a b; last-near = within-greater a b }) (drawn-near s h)

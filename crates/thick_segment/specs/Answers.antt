@@ -48,8 +48,8 @@ perimeterAnswer k s = cond (isSegmentNear k s) (perimeterOf s) (rowsOf 6 [])
 unfoldable pub countAnswer : ℕ → Segment → Counted
 countAnswer k s = cond (isSegmentNear k s) (record { refusal = 0; count = countOf s }) (record { refusal = cornerRefused; count = 0 })
 
-unfoldable pub rowsAnswer : ℕ → Segment → DrawnRows
-rowsAnswer k s = cond (isSegmentNear k s) (record { refusal = 0; rows = drawnRows s }) (record { refusal = cornerRefused; rows = rowsFrom (pos 0) (pos 0) })
+unfoldable pub drawnRowsAnswer : ℕ → Segment → DrawnRows
+drawnRowsAnswer k s = cond (isSegmentNear k s) (record { refusal = 0; rows = drawnRows s }) (record { refusal = cornerRefused; rows = rowsFrom (pos 0) (pos 0) })
 
 -- ---- the span: 5, then 6
 

@@ -1,4 +1,4 @@
--- What 01 says of segments in words: the span is that of the points of the lines that are drawn; and the rows that are lit.
+-- What 01 says of segments in words: the span is that of the points of the lines that are drawn; and, for 02's K8, which rows have such a point.
 use mathlib.Core.Path.{_≡_}
 use mathlib.Core.List.{List, [], _∷_, _++_, List·Memᴰ}
 use Prim.Native.Nat.{ℕ}
@@ -46,6 +46,6 @@ pub record RectangleNear (k : ℕ) (b : Rectangle) : Type 0 where
   pub first-near : Near k (b .first)
   pub last-near : Near k (b .last)
 
-pub record RowsNear (k : ℕ) (r : Rows) : Type 0 where
+pub record EndsNear (k : ℕ) (r : Rows) : Type 0 where
   pub first-near : Within (r .first) k
   pub last-near : Within (r .last) k

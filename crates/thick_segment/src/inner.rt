@@ -3,7 +3,7 @@ ghost use mathlib.Core.Path.{_≡_};
 ghost use Prim.Native.Nat.{_≤_, _<_};
 ghost use lib.ListN.{length, take, set};
 ghost use Rattle.shapes.specs.Limits.{lineLimit};
-ghost use Rattle.shapes.specs.Shape.{lineOf, samePoint};
+ghost use Rattle.shapes.specs.Shape.{lineOf};
 ghost use Rattle.thick_segment.specs.Segments.{SegmentNear, isSegmentNear, upperOf, lowerOf, topOf, bottomOf, isSkeleton, edgesOf};
 ghost use Rattle.thick_segment.specs.Segments.{least as leastOf, most as mostOf, boxOf, union as unionOf, boundingBox};
 ghost use Rattle.thick_segment.specs.Segments.{coordinates as coordinatesOf, capLines, placed, countOf, lineAt, AllNear, metRows, perimeterOf, spanOn};

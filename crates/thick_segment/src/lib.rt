@@ -2,7 +2,7 @@
 //! rows, and its span on a row. `thick_segment.rs`.
 ghost use mathlib.Core.Path.{_≡_};
 ghost use Rattle.shapes.specs.Limits.{cornerLimit};
-ghost use Rattle.thick_segment.specs.Answers.{skeletonAnswer, edgesAnswer, boxAnswer, perimeterAnswer, countAnswer, rowsAnswer, segmentRefusal, spanAnswer};
+ghost use Rattle.thick_segment.specs.Answers.{skeletonAnswer, edgesAnswer, boxAnswer, perimeterAnswer, countAnswer, drawnRowsAnswer, segmentRefusal, spanAnswer};
 
 pub mod inner; // inner.rt: the same without the tests
 
@@ -170,7 +170,7 @@ pub fn edges_bounding_box(segment: Segment) -> Boxed
 /// The first and the last row of the lines that are drawn: of a skeleton's right edge, else of the whole perimeter. Both rows have a drawn
 /// point, and no row outside them has one. A join with a corner beyond 4,095 is refused with 5.
 pub fn drawn_rows(segment: Segment) -> DrawnRows
-    ensures { λ r. ⌜ r ≡ rowsAnswer cornerLimit segment ⌝ }
+    ensures { λ r. ⌜ r ≡ drawnRowsAnswer cornerLimit segment ⌝ }
 {
     if is_segment_near(segment, limits::CORNER) {
         return DrawnRows {

@@ -3,7 +3,7 @@ use mathlib.Core.Bool.{true}
 use borrow.Author.Needs.{needs}
 use Rattle.shapes.specs.Limits.{cornerLimit}
 use Rattle.thick_segment.specs.Segments.{isSegmentNear}
-use Rattle.thick_segment.specs.Answers.{rowsAnswer}
+use Rattle.thick_segment.specs.Answers.{drawnRowsAnswer}
 use Rattle.thick_segment.proofs.Refused.{segment-room}
 use Rattle.thick_segment.proofs.drawn_rows.Statement.{statement}
 use Rattle.thick_segment.proofs.drawn_rows.Tie as tie
@@ -15,11 +15,11 @@ drawn-rows-requires : tie.Need-drawn-rows-requires
 drawn-rows-requires c κs = segment-room (c .before .before .args .segment) (inside c)
 
 returns : tie.Need-returns
-unfolding rowsAnswer
+unfolding drawnRowsAnswer
 returns c = simp (inside (c .before), c .drawn-rows .ensures)
 
 returns-2 : tie.Need-returns-2
-unfolding rowsAnswer
+unfolding drawnRowsAnswer
 returns-2 c = simp (sym (c .before .is-segment-near .ensures) ∙ c .if1 .left)
 
 pub drawn-rows-spec : {M : Type 1} → statement M
