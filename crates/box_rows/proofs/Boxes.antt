@@ -18,21 +18,25 @@ use Rattle.shapes.specs.declared.Line.{Line}
 use Rattle.line_join.specs.Join.{startOf, endOf}
 use Rattle.thick_segment.specs.declared.Segment.{Segment}
 use Rattle.thick_segment.specs.declared.Rows.{Rows}
-use Rattle.thick_segment.specs.Segments.{isSkeleton, edgesOf, least, most, boxOf, union, boundingBox}
+use Rattle.thick_segment.specs.Segments.{SegmentNear, isSkeleton, edgesOf, least, most, boxOf, union, boundingBox}
 use Rattle.thick_segment.specs.Rows.{lineRows, boxRows, around, drawnRows}
 use Rattle.thick_segment.specs.Words.{Holds}
+use Rattle.thick_segment.specs.Answers.{boxAnswer}
+use Rattle.thick_segment.proofs.Answers.{box-chosen}
 use Rattle.thick_segment.proofs.Drawn.{CornersHave, JoinHas, On}
 use Rattle.thick_segment.proofs.Lit.{around-first, around-second, holds-on, holds-row, skeleton-rows, rows-among, box-among}
 use Rattle.coordinates.specs.Points.{pointCount, placeBefore}
 use Rattle.coordinates.proofs.Places.{before-inside, before-after}
-use Rattle.route_joins.specs.Joins.{joinAt, joinOn, endPlace, segmentsOf, segmentAt, segmentOf, segmentCount}
-use Rattle.route_joins.proofs.Near.{place-inside, several-by}
+use Rattle.route_joins.specs.Joins.{joinAt, joinCount, joinOn, endPlace, segmentsOf, segmentAt, segmentOf, segmentCount}
+use Rattle.route_joins.proofs.Near.{place-inside, joins-exactly, several-by}
 use Rattle.route_joins.proofs.Open.{first-join, last-join}
 use Rattle.route.specs.declared.RowRange.{RowRange}
+use Rattle.route.specs.Joined.{joinsOf}
 use Rattle.route.specs.Rows.{noRows, ends, withAll}
 use Rattle.route.specs.Answers.{drawRefusal, rowsAnswer}
 use Rattle.route.proofs.Bounds.{bounds, bounds-least}
 use Rattle.route.proofs.AllRows.{all-refusal, rows-bounds, rows-none-of, rows-refusal}
+use Rattle.route.proofs.Kept.{segment-near, segments-all, segment-is, kept-joins}
 use Rattle.route.proofs.Refused.{draw-none}
 use Rattle.box_rows.specs.Words.{boxed, boxRange, OneLine, Plain}
 
@@ -141,6 +145,20 @@ module _ (closed : Bool) (cs : List ℤ) (w : ℤ) (several : 2 ≤ pointCount c
       let has = joins-by closed cs w several (start-in closed cs w plain all) (end-in closed cs w plain all) in
       let p = place-inside closed h in
       rows-among (segmentAt closed cs w i) (has i (p .0)) (has (endPlace closed (pointCount cs) i) (p .1))
+
+-- ---- the boxes are those that `edges_bounding_box` answers
+
+module _ (limits : Limits) (closed : Bool) (cs : List ℤ) (w : ℤ) (free : drawRefusal limits closed cs w ≡ 0) {i : ℕ} (h : i < segmentCount closed cs) where
+  segment-corners : SegmentNear (limits .corner) (segmentAt closed cs w i)
+  unfolding joinsOf
+  segment-corners =
+      let a = draw-none limits closed cs w .0 free in
+      let kept = kept-joins (limits .corner) closed cs w (a .0 .few) (joins-exactly (limits .corner) closed cs w .1 (a .1)) in
+      let inside : i < segmentsOf closed (joinCount cs) = rw (segments-all (a .0)) h in
+      rw (segment-is (limits .corner) closed cs w inside) at (segment-near kept inside)
+
+  pub box-asked : boxRows (boxAnswer (limits .corner) (segmentAt closed cs w i) .rectangle) ≡ boxed closed cs w i
+  box-asked = rw (box-chosen (limits .corner) (segmentAt closed cs w i) .holds segment-corners)
 
 -- ---- so the rows of the drawn lines are those of the boxes
 

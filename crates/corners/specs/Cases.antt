@@ -27,6 +27,9 @@ use Rattle.line_join.specs.declared.Joined.the-variants.{Made}
 use Rattle.line_join.specs.declared.Kind.the-variants.{Miter}
 use Rattle.line_join.specs.Answers.{joinValues, capsValues, pointsAnswer, startCapsAnswer, endCapsAnswer}
 use Rattle.thick_segment.specs.declared.Segment.{Segment}
+use Rattle.thick_segment.specs.declared.Rectangle.{Rectangle}
+use Rattle.thick_segment.specs.declared.Rows.{Rows}
+use Rattle.thick_segment.specs.Answers.{boxAnswer, drawnRowsAnswer}
 use Rattle.route_joins.specs.declared.Step.the-variants.{Drawn, End}
 use Rattle.route_joins.specs.Steps.{stepValues}
 use Rattle.closed_thick_segment_iter.specs.declared.Walk.{Walk}
@@ -54,6 +57,8 @@ pub data Case : Type 0 where
   stroked : Line → ℤ → Offset → List Parallel → Edges → Case
   -- a join, and its cap lines where the second line starts, and where the first one ends
   capped : Join → Caps → Caps → Case
+  -- a segment, the box of its edges, and the rows of its drawn lines
+  rowed : Segment → Rectangle → Rows → Case
   -- the coordinates of a closed route and a width, and its segments
   closed : List ℤ → ℤ → List Segment → Case
 
@@ -84,6 +89,8 @@ Holds (sides l p left right) =
     (sideAnswer crossingLimit l p Left ≡ record { refusal = 0; holds = left }) × (sideAnswer crossingLimit l p Right ≡ record { refusal = 0; holds = right })
 Holds (stroked l w o ps e) = (parallelsOf l w o ≡ ps) × (extentsAnswer pointLimit l w o ≡ accepted e)
 Holds (capped j starting ending) = (startCapsAnswer cornerLimit j ≡ capsValues starting) × (endCapsAnswer cornerLimit j ≡ capsValues ending)
+Holds (rowed s box rows) =
+    (boxAnswer cornerLimit s ≡ record { refusal = 0; rectangle = box }) × (drawnRowsAnswer cornerLimit s ≡ record { refusal = 0; rows = rows })
 Holds (closed cs w ss) = (closedStart pointLimit cs w None .refusal ≡ 0) × Walks cs (closedStart pointLimit cs w None .walk) ss
 
 -- each case of a list holds

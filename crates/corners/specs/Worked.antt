@@ -1,4 +1,4 @@
--- Cases worked out by hand from 01's rules W1 to W5 and its module 4, in one list: what the P cases leave to definitions.
+-- Cases worked out by hand from 01's rules W1 to W5 and its modules 4 and 5, and from 02's K8, in one list: what the P cases leave to definitions.
 use mathlib.Core.Bool.{true, false}
 use mathlib.Core.List.{List, [], _∷_}
 use lib.IntN.{ℤ, pos, negsuc}
@@ -9,10 +9,12 @@ use Rattle.shapes.specs.Shape.{pointOf}
 use Rattle.bresenham.specs.Walk.{placeOf}
 use Rattle.parallels.specs.declared.Parallel.{Parallel}
 use Rattle.line_join.specs.declared.Join.{Join}
-use Rattle.line_join.specs.declared.Kind.the-variants.{Bevel, Degenerate, Colinear, Start}
+use Rattle.line_join.specs.declared.Kind.the-variants.{Miter, Bevel, Degenerate, Colinear, Start, End}
 use Rattle.line_join.specs.declared.Caps.the-variants.{Two}
 use Rattle.line_join.specs.Join.{cornersOf, alike}
-use Rattle.corners.specs.Cases.{Case, joins, stroked, capped, closed, line}
+use Rattle.thick_segment.specs.declared.Rectangle.{Rectangle}
+use Rattle.thick_segment.specs.Rows.{rowsFrom}
+use Rattle.corners.specs.Cases.{Case, joins, stroked, capped, rowed, closed, line}
 
 -- a parallel's side, first point and error
 abbrev normal : Side → ℤ → ℤ → ℤ → Parallel
@@ -161,6 +163,33 @@ oddFiller =
     (Two (line (pos 0) (pos 9) (pos 2) (pos 7)) (line (pos 2) (pos 7) (pos 0) (pos 3)))
     (Two (line (pos 3) (pos 6) (pos 2) (pos 7)) (line (pos 2) (pos 7) (negsuc 2) (pos 6)))
 
+-- ---- segments whose drawn lines have rows that the box of their edges has not
+
+abbrev box : ℤ → ℤ → ℤ → ℤ → Rectangle
+box x y u v = record { first = pointOf x y; last = pointOf u v }
+
+-- A skeleton, as its start join ends the edge before at one point, (-1,-1). The left edge is (3,-5)-(-1,-1), and the box is that of its
+-- ends; the right one, (-1,-1)-(6,-7), is drawn. It is the second segment of the closed walk (-5,-3), (-1,-1), (3,-5) at width 2, offset Right.
+unfoldable pub skeleton : Case
+skeleton =
+    rowed
+    (record {
+      start = alike Miter (cornersOf (pointOf (negsuc 0) (negsuc 0)) (pointOf (negsuc 0) (negsuc 0)));
+      end = alike Miter (cornersOf (pointOf (pos 3) (negsuc 4)) (pointOf (pos 6) (negsuc 6)));
+    })
+    (box (negsuc 0) (negsuc 4) (pos 3) (negsuc 0)) (rowsFrom (negsuc 6) (negsuc 0))
+
+-- A segment that begins with a cut corner. The filler line is (0,-8)-(4,0), its midpoint (2,-4): the caps of the start are (4,0)-(2,-4) and
+-- (2,-4)-(0,2). That of the end is (10,0)-(10,2), the edges are (0,2)-(10,2) and (10,0)-(4,0), and so the row -4 is that of the caps alone.
+unfoldable pub cutCorner : Case
+cutCorner =
+    rowed
+    (record {
+      start = record { kind = Bevel Left; ending = cornersOf (pointOf (pos 0) (negsuc 7)) (pointOf (pos 0) (pos 2)); starting = cornersOf (pointOf (pos 4) (pos 0)) (pointOf (pos 0) (pos 2)) };
+      end = alike End (cornersOf (pointOf (pos 10) (pos 0)) (pointOf (pos 10) (pos 2)));
+    })
+    (box (pos 0) (pos 0) (pos 10) (pos 2)) (rowsFrom (negsuc 3) (pos 2))
+
 -- ---- a closed route of two points, (0,0) and (4,0), at width 3: out and back
 
 -- the first join is the start of (0,0)-(4,0)
@@ -176,4 +205,4 @@ unfoldable pub outAndBack : Case
 outAndBack = closed (pos 0 ∷ pos 0 ∷ pos 4 ∷ pos 0 ∷ []) (pos 3) (record { start = out; end = back } ∷ record { start = back; end = out } ∷ [])
 
 unfoldable pub worked : List Case
-worked = evenWidth ∷ oddWidth ∷ turnedRound ∷ atThreshold ∷ diagonal ∷ leftOnly ∷ rightOnly ∷ bevelLeft ∷ bevelRight ∷ degenerate ∷ shortTurn ∷ oddFiller ∷ outAndBack ∷ []
+worked = evenWidth ∷ oddWidth ∷ turnedRound ∷ atThreshold ∷ diagonal ∷ leftOnly ∷ rightOnly ∷ bevelLeft ∷ bevelRight ∷ degenerate ∷ shortTurn ∷ oddFiller ∷ skeleton ∷ cutCorner ∷ outAndBack ∷ []
