@@ -33,9 +33,9 @@ struct Edges {
 /// Edges by the points z that they have in common, as x and y.
 type ByPoint = BTreeMap<(i32, i32), Vec<Edges>>;
 
-/// A line for each width: how many legs have edges that start in one point, or an edge that comes to the
-/// end of the other; the legs with a point z at their end, and at their start; and how many of the former
-/// make a skeleton with one of the latter.
+/// A line for each width: how many legs have edges that start or end in one point, or, from width 3 on, an
+/// edge that comes to the end of the other; the legs with a point z at their end, and at their start; and
+/// how many of the former make a skeleton with one of the latter.
 pub fn print() {
     for width in 2..=64 {
         let (mut close, mut ends, mut starts) = (0, ByPoint::new(), ByPoint::new());
@@ -77,7 +77,9 @@ fn seen_from_end(edges: &Edges) -> Edges {
     Edges { left: moved(left), right: moved(right), leg }
 }
 
-/// An edge of no length makes a bend Colinear: then both corners are ends, and must differ.
+/// Whether the end of an edge can be both corners. An edge of no length makes a bend Colinear: then both
+/// are ends, and must differ. At width 2 one edge ends in the bend, which is then the only z; many left
+/// edges come to its cell, and `common` gathers them all.
 fn is_close(edges: &Edges, width: i32) -> bool {
     let Edges { left, right, .. } = edges;
     let is_met = || meets(right, left.end) || meets(left, right.end);
