@@ -1,6 +1,7 @@
 //! Looks for skeletons from width 2 on: joins whose two corners `first_edge_end` are one point z,
 //! with strokes on both sides of their line. Edges are taken for endless lines here, and points are
-//! seen from the bend.
+//! seen from the bend: edges move with their leg. How a half is rounded does not, which is why the
+//! border of a cell counts below.
 //!
 //! Where a route starts, both edges of its first leg then start in one point.
 //!
@@ -37,6 +38,7 @@ type ByPoint = BTreeMap<(i32, i32), Vec<Edges>>;
 /// edge that comes to the end of the other; the legs with a point z at their end, and at their start; and
 /// how many of the former make a skeleton with one of the latter.
 pub fn print() {
+    assert!(i32::BITS == 64, "the variant `wide` counts in 64 bits, and thresholds need them");
     for width in 2..=64 {
         let (mut close, mut ends, mut starts) = (0, ByPoint::new(), ByPoint::new());
         for leg in legs() {
@@ -77,9 +79,9 @@ fn seen_from_end(edges: &Edges) -> Edges {
     Edges { left: moved(left), right: moved(right), leg }
 }
 
-/// Whether the end of an edge can be both corners. An edge of no length makes a bend Colinear: then both
-/// are ends, and must differ. At width 2 one edge ends in the bend, which is then the only z; many left
-/// edges come to its cell, and `common` gathers them all.
+/// Whether both edges start in one point, or the end of one can be both corners. An edge of no length
+/// makes a bend Colinear: then both are ends, and must differ. At width 2 one edge ends in the bend,
+/// which is then the only z; many left edges come to its cell, and `common` gathers them all.
 fn is_close(edges: &Edges, width: i32) -> bool {
     let Edges { left, right, .. } = edges;
     let is_met = || meets(right, left.end) || meets(left, right.end);
@@ -128,7 +130,7 @@ fn are_apart(edges: &Edges) -> bool {
     cross(a, b) == 0 && cross(left.start - right.start, a).abs() > a.x.abs() + a.y.abs()
 }
 
-/// The points at a place of the axis along which a line runs that are at most a pixel from it.
+/// The points at a place of the axis along which a line runs whose cells it may meet.
 fn beside(line: &Line, along: i32) -> [Point; 4] {
     let Line { start, end } = *line;
     let delta = end - start;

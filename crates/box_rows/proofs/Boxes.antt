@@ -38,7 +38,7 @@ use Rattle.route.proofs.Bounds.{bounds, bounds-least}
 use Rattle.route.proofs.AllRows.{all-refusal, rows-bounds, rows-none-of, rows-refusal}
 use Rattle.route.proofs.Kept.{segment-near, segments-all, segment-is, kept-joins}
 use Rattle.route.proofs.Refused.{draw-none}
-use Rattle.box_rows.specs.Words.{boxed, boxRange, OneLine, Plain}
+use Rattle.box_rows.specs.Words.{boxed, boxRange, OneLine, OneLined}
 
 -- ---- a segment
 
@@ -56,7 +56,7 @@ start-on l = record { from = lesser-le (l .start .y) (l .end .y) .0; to = le-gre
 end-on : (l : Line) → On (lineRows l) (l .end)
 end-on l = record { from = lesser-le (l .start .y) (l .end .y) .1; to = le-greater (l .start .y) (l .end .y) .1 }
 
-module _ (s : Segment) (plain : isSkeleton s ≡ true → OneLine s) where
+module _ (s : Segment) (lined : isSkeleton s ≡ true → OneLine s) where
   abbrev box : Rows
   box = boxRows (boundingBox s)
 
@@ -79,7 +79,7 @@ module _ (s : Segment) (plain : isSkeleton s ≡ true → OneLine s) where
   boxed-by : (t : Bool) → isSkeleton s ≡ t → (Holds box right × Holds box left) × Holds (drawnRows s) box
   unfolding boundingBox union boxOf least most around
   boxed-by true e =
-      let o = same-edges (plain e) in
+      let o = same-edges (lined e) in
       let own : Holds left left = record { from = omega linear; to = omega linear } in
       rw (skeleton-rows s e, e) ((o .0, own), o .1)
   boxed-by false e = (rw e (around-first right left, around-second right left), box-among s e)
@@ -105,14 +105,14 @@ module _ (s : Segment) (plain : isSkeleton s ≡ true → OneLine s) where
 
 -- ---- a route: rows that hold all boxes have all corners of all joins, and so they hold all drawn lines
 
-module _ (closed : Bool) (cs : List ℤ) (w : ℤ) (plain : Plain closed cs w) {r : Rows} (all : (i : ℕ) → i < segmentCount closed cs → Holds r (boxed closed cs w i)) where
+module _ (closed : Bool) (cs : List ℤ) (w : ℤ) (lined : OneLined closed cs w) {r : Rows} (all : (i : ℕ) → i < segmentCount closed cs → Holds r (boxed closed cs w i)) where
   start-in : (i : ℕ) → i < segmentCount closed cs → CornersHave (On r) (joinAt closed cs w i .starting)
   unfolding segmentOf
-  start-in i h = starts-in (segmentAt closed cs w i) (plain .each i h) (all i h)
+  start-in i h = starts-in (segmentAt closed cs w i) (lined .each i h) (all i h)
 
   end-in : (i : ℕ) → i < segmentCount closed cs → CornersHave (On r) (joinAt closed cs w (endPlace closed (pointCount cs) i) .ending)
   unfolding segmentOf
-  end-in i h = ends-in (segmentAt closed cs w i) (plain .each i h) (all i h)
+  end-in i h = ends-in (segmentAt closed cs w i) (lined .each i h) (all i h)
 
 -- of the joins at which an open route starts and ends the two pairs of corners are one
 start-join : (cs : List ℤ) (w : ℤ) → joinAt false cs w 0 .ending ≡ joinAt false cs w 0 .starting
@@ -138,11 +138,11 @@ joins-by false cs w several starts ends (suc k) h =
       starting = ⊎-elim (λ more. starts (suc k) (omega arith)) (λ none. rw (end-join cs w k (omega arith)) last) (le-or-lt (suc (suc (suc k))) (pointCount cs));
     }
 
-module _ (closed : Bool) (cs : List ℤ) (w : ℤ) (several : 2 ≤ pointCount cs) (plain : Plain closed cs w) where
+module _ (closed : Bool) (cs : List ℤ) (w : ℤ) (several : 2 ≤ pointCount cs) (lined : OneLined closed cs w) where
   drawn-in : {r : Rows} → ((i : ℕ) → i < segmentCount closed cs → Holds r (boxed closed cs w i)) → (i : ℕ) → i < segmentCount closed cs → Holds r (drawnRows (segmentAt closed cs w i))
   unfolding segmentCount segmentOf
   drawn-in all i h =
-      let has = joins-by closed cs w several (start-in closed cs w plain all) (end-in closed cs w plain all) in
+      let has = joins-by closed cs w several (start-in closed cs w lined all) (end-in closed cs w lined all) in
       let p = place-inside closed h in
       rows-among (segmentAt closed cs w i) (has i (p .0)) (has (endPlace closed (pointCount cs) i) (p .1))
 
@@ -168,7 +168,7 @@ same-range {a} {b} n some p q =
     let last : a .last ≡ b .last = omega (linear, p .to, q .to) in
     rw (n, some, first, last)
 
-module _ (limits : Limits) (closed : Bool) (cs : List ℤ) (w : ℤ) (free : drawRefusal limits closed cs w ≡ 0) (plain : Plain closed cs w) where
+module _ (limits : Limits) (closed : Bool) (cs : List ℤ) (w : ℤ) (free : drawRefusal limits closed cs w ≡ 0) (lined : OneLined closed cs w) where
   abbrev rows : RowRange
   rows = rowsAnswer limits closed cs w
 
@@ -183,8 +183,8 @@ module _ (limits : Limits) (closed : Bool) (cs : List ℤ) (w : ℤ) (free : dra
       let several = several-by (pointCount cs) closed (draw-none limits closed cs w .0 free .0 .several) h in
       let none = all-refusal (noRows 0) (listFrom (boxed closed cs w) 0 (segmentCount closed cs)) refl in
       same-range (rows-refusal limits closed cs w ∙ free ∙ sym none) (b .some ∙ sym (o .some))
-      (bounds-least (boxed closed cs w) o (λ i g. holds-on (b .holds i g) (box-drawn (segmentAt closed cs w i) (plain .each i g))))
-      (bounds-least (λ i. drawnRows (segmentAt closed cs w i)) b (drawn-in closed cs w several plain (o .holds)))
+      (bounds-least (boxed closed cs w) o (λ i g. holds-on (b .holds i g) (box-drawn (segmentAt closed cs w i) (lined .each i g))))
+      (bounds-least (λ i. drawnRows (segmentAt closed cs w i)) b (drawn-in closed cs w several lined (o .holds)))
 
   no-rows : segmentCount closed cs ≡ 0 → rows ≡ old
   unfolding boxRange withAll listFrom

@@ -1,16 +1,14 @@
 -- At widths 0 and 1 both edges of every segment lie on one line, and so the rows are those of the boxes. Assumes nothing.
-use mathlib.Core.Path.{_≡_, refl, sym, ap, _∙_}
+use mathlib.Core.Path.{_≡_, refl, ap}
 use mathlib.Core.Logic.{_⊎_, ⊎-elim}
 use mathlib.Core.Bool.{Bool, true, false}
 use mathlib.Core.List.{List}
 use Prim.Native.Nat.{ℕ, _+_, _-_, _≤_}
 use native.Mathlib.Omega.{arith}
 use lib.Dec.{eqb}
-use lib.IntN.{ℤ, pos, natAbs, _*ℤ_}
+use lib.IntN.{ℤ, pos, natAbs}
 use Rattle.whole.proofs.Laws.{nearest-whole}
-use Rattle.whole.proofs.Linear.{linear}
-use Rattle.whole.proofs.Ring.{con, _⊕_, _⊖_, _⊗_, _≈_, ring}
-use Rattle.whole.proofs.Steps.{square-is}
+use Rattle.whole.proofs.Ring.{con, _⊖_, _⊗_, _≈_, ring}
 use Rattle.whole.proofs.Tests.{either}
 use Rattle.shapes.specs.declared.Point.{Point}
 use Rattle.shapes.specs.declared.Line.{Line}
@@ -18,7 +16,7 @@ use Rattle.shapes.specs.declared.Side.{Side}
 use Rattle.shapes.specs.declared.Side.the-variants.{Left, Right}
 use Rattle.shapes.specs.declared.Offset.the-variants.{None}
 use Rattle.shapes.specs.Limits.{lineLimit}
-use Rattle.shapes.specs.Shape.{lineOf, Near, determinant, minus, delta, dotProduct, squaredLength}
+use Rattle.shapes.specs.Shape.{lineOf, Near, determinant, minus, delta}
 use Rattle.shapes.specs.declared.limits.Limits.{Limits}
 use Rattle.shapes.proofs.Laws.{near-more, line-of-near}
 use Rattle.intersection_params.specs.declared.Solution.{Solution}
@@ -33,9 +31,8 @@ use Rattle.extents.proofs.One.{edges-at-one}
 use Rattle.line_join.specs.declared.Join.{Join}
 use Rattle.line_join.specs.declared.Kind.{Kind}
 use Rattle.line_join.specs.declared.Kind.the-variants as kind
-use Rattle.line_join.specs.Miter.{miterLimit, reaches}
-use Rattle.line_join.specs.Join.{meet, cornersOf, outer, overlapping, plain, bentAt, bentLeft, bentOf, startOf, endOf, joinOf}
-use Rattle.line_join.proofs.Laws.{reaches-exactly}
+use Rattle.line_join.specs.Miter.{reaches}
+use Rattle.line_join.specs.Join.{meet, cornersOf, outer, cut, overlapping, plain, bentAt, bentLeft, bentOf, startOf, endOf, joinOf}
 use Rattle.line_join.proofs.Meeting.{meet-drawn, meet-ended}
 use Rattle.coordinates.specs.Points.{pointAt, pointCount, placeBefore, placeAfter}
 use Rattle.coordinates.specs.Refusal.{AllWithin}
@@ -43,13 +40,8 @@ use Rattle.coordinates.proofs.Lists.{point-near}
 use Rattle.route_joins.specs.Joins.{bendAt, openJoin, closedJoin, joinOn, endPlace, segmentOf}
 use Rattle.route.specs.Answers.{drawRefusal, rowsAnswer}
 use Rattle.route.proofs.Refused.{draw-none}
-use Rattle.box_rows.specs.Words.{boxRange, Plain}
+use Rattle.box_rows.specs.Words.{boxRange, OneLined}
 use Rattle.box_rows.proofs.Boxes.{rows-boxes}
-
--- a miter without length is within any limit
-no-length : (b : Point) (w : ℤ) → reaches b b w ≡ true
-unfolding squaredLength dotProduct minus miterLimit
-no-length b w = reaches-exactly b b w .1 (rw (ring 2 (λ x y. (x ⊖ x) ⊗ (x ⊖ x) ⊕ (y ⊖ y) ⊗ (y ⊖ y) ≈ con (pos 0)) refl (b .x) (b .y), square-is (pos 2 *ℤ w)) (omega linear))
 
 same-point : {p q : Point} → p .x ≡ q .x → p .y ≡ q .y → p ≡ q
 same-point e f = rw (e, f)
@@ -86,31 +78,29 @@ module _ (a b c : Point) where
   meets-end : {p : Point} {s : Side} → meet second first ≡ At p s → p ≡ b
   meets-end = meets-by (nearlyColinear second first) refl
 
--- ---- a join whose edges are the lines themselves has all its corners at its point
+-- ---- of a join whose edges are the lines themselves the left and the right corner are one, where the line before ends and where the one after starts
 
-record AllAt (p : Point) (j : Join) : Type 0 where
-  ending-left : j .ending .left ≡ p
-  ending-right : j .ending .right ≡ p
-  starting-left : j .starting .left ≡ p
-  starting-right : j .starting .right ≡ p
+record Merged (j : Join) : Type 0 where
+  ending-one : j .ending .left ≡ j .ending .right
+  starting-one : j .starting .left ≡ j .starting .right
 
 abbrev bare : Line → Edges
 bare l = record { left = l; right = l }
 
 module _ (a b c : Point) (w : ℤ) where
-  at-edges : (k : Kind) → AllAt b (plain k (bare (lineOf a b)) (bare (lineOf b c)))
-  at-edges k = record { ending-left = refl; ending-right = refl; starting-left = refl; starting-right = refl }
+  at-edges : (k : Kind) → Merged (plain k (bare (lineOf a b)) (bare (lineOf b c)))
+  at-edges k = record { ending-one = refl; starting-one = refl }
 
-  -- the miter has no length, so that it is kept
-  no-miter : (s : Side) → reaches b (outer s (cornersOf b b)) w ≡ true
-  no-miter Left = no-length b w
-  no-miter Right = no-length b w
+  at-cut : (s : Side) → Merged (cut s (cornersOf b b) (bare (lineOf a b)) (bare (lineOf b c)))
+  at-cut Left = record { ending-one = refl; starting-one = refl }
+  at-cut Right = record { ending-one = refl; starting-one = refl }
 
-  bent-by : (x : Intersection) → meet (lineOf b c) (lineOf a b) ≡ x → AllAt b (bentLeft x x (bare (lineOf a b)) (bare (lineOf b c)) b w)
+  bent-by : (x : Intersection) → meet (lineOf b c) (lineOf a b) ≡ x → Merged (bentLeft x x (bare (lineOf a b)) (bare (lineOf b c)) b w)
   unfolding bentAt
   bent-by (At p s) e =
       rw (meets-end a b c e)
-      (either (AllAt b) (overlapping s (bare (lineOf a b)) (bare (lineOf b c))) (λ _. at-edges (kind.Degenerate s)) (λ _. rw (no-miter s) (record { ending-left = refl; ending-right = refl; starting-left = refl; starting-right = refl })))
+      (either Merged (overlapping s (bare (lineOf a b)) (bare (lineOf b c))) (λ _. at-edges (kind.Degenerate s))
+      (λ _. either Merged (reaches b (outer s (cornersOf b b)) w) (λ _. record { ending-one = refl; starting-one = refl }) (λ _. at-cut s)))
   bent-by Colinear e = at-edges kind.Colinear
   bent-by (Refused n) e = at-edges kind.Colinear
 
@@ -125,51 +115,43 @@ module _ {w : ℤ} (thin : Thinnest w) where
       let near = line-of-near p q in
       ⊎-elim (λ zero. rw zero (edges-at-zero (lineOf a b) None near)) (λ one. rw one (edges-at-one (lineOf a b) None near)) thin
 
-  start-at : {a b : Point} → Near lineLimit a → Near lineLimit b → AllAt a (startOf a b w None)
+  start-at : {a b : Point} → Near lineLimit a → Near lineLimit b → Merged (startOf a b w None)
   unfolding startOf
-  start-at p q = rw (edges-bare p q) (record { ending-left = refl; ending-right = refl; starting-left = refl; starting-right = refl })
+  start-at p q = rw (edges-bare p q) (record { ending-one = refl; starting-one = refl })
 
-  end-at : {a b : Point} → Near lineLimit a → Near lineLimit b → AllAt b (endOf a b w None)
+  end-at : {a b : Point} → Near lineLimit a → Near lineLimit b → Merged (endOf a b w None)
   unfolding endOf
-  end-at p q = rw (edges-bare p q) (record { ending-left = refl; ending-right = refl; starting-left = refl; starting-right = refl })
+  end-at p q = rw (edges-bare p q) (record { ending-one = refl; starting-one = refl })
 
-  bend-at : {a b c : Point} → Near lineLimit a → Near lineLimit b → Near lineLimit c → AllAt b (joinOf a b c w None)
+  bend-at : {a b c : Point} → Near lineLimit a → Near lineLimit b → Near lineLimit c → Merged (joinOf a b c w None)
   unfolding joinOf bentOf
   bend-at {a} {b} {c} p q r = rw (edges-bare p q, edges-bare q r) (bent-by a b c w (meet (lineOf b c) (lineOf a b)) refl)
 
 -- ---- of a route
-
--- the left and the right corner are one, where the line before ends and where the one after starts
-record Merged (j : Join) : Type 0 where
-  ending-one : j .ending .left ≡ j .ending .right
-  starting-one : j .starting .left ≡ j .starting .right
-
-merged : {p : Point} {j : Join} → AllAt p j → Merged j
-merged h = record { ending-one = h .ending-left ∙ sym (h .ending-right); starting-one = h .starting-left ∙ sym (h .starting-right) }
 
 module _ (closed : Bool) {k : ℕ} {cs : List ℤ} {w : ℤ} (thin : Thinnest w) (near : AllWithin k cs) (fits : k ≤ lineLimit) where
   at-near : (i : ℕ) → Near lineLimit (pointAt cs i)
   at-near i = near-more (point-near near i) fits
 
   start-merged : (i j : ℕ) → Merged (startOf (pointAt cs i) (pointAt cs j) w None)
-  start-merged i j = merged (start-at thin (at-near i) (at-near j))
+  start-merged i j = start-at thin (at-near i) (at-near j)
 
   bend-merged : (h i j : ℕ) → Merged (bendAt cs w None h i j)
   unfolding bendAt
-  bend-merged h i j = merged (bend-at thin (at-near h) (at-near i) (at-near j))
+  bend-merged h i j = bend-at thin (at-near h) (at-near i) (at-near j)
 
   join-merged : (t : Bool) (i : ℕ) → Merged (joinOn t cs w None i)
   unfolding joinOn openJoin closedJoin
   join-merged true i = either Merged (eqb (pointCount cs + i) 2) (λ _. start-merged 0 1) (λ _. bend-merged (placeBefore (pointCount cs) i) i (placeAfter (pointCount cs) i))
   join-merged false i =
       either Merged (eqb i 0) (λ _. start-merged 0 1)
-      (λ _. either Merged (eqb (i + 1) (pointCount cs)) (λ _. merged (end-at thin (at-near (i - 1)) (at-near i))) (λ _. bend-merged (i - 1) i (i + 1)))
+      (λ _. either Merged (eqb (i + 1) (pointCount cs)) (λ _. end-at thin (at-near (i - 1)) (at-near i)) (λ _. bend-merged (i - 1) i (i + 1)))
 
   -- both edges of every segment lie on one line
-  thin-plain : Plain closed cs w
+  thin-lined : OneLined closed cs w
   unfolding segmentOf
-  thin-plain = record { each = λ i h e. record { starts = join-merged closed i .starting-one; ends = join-merged closed (endPlace closed (pointCount cs) i) .ending-one } }
+  thin-lined = record { each = λ i h e. record { starts = join-merged closed i .starting-one; ends = join-merged closed (endPlace closed (pointCount cs) i) .ending-one } }
 
 -- so the rows are those of the boxes
 pub thin-boxes : (limits : Limits) (closed : Bool) (cs : List ℤ) {w : ℤ} → limits .point ≤ lineLimit → Thinnest w → drawRefusal limits closed cs w ≡ 0 → rowsAnswer limits closed cs w ≡ boxRange closed cs w
-thin-boxes limits closed cs {w} fits thin free = rows-boxes limits closed cs w free (thin-plain closed thin (draw-none limits closed cs w .0 free .0 .near) fits)
+thin-boxes limits closed cs {w} fits thin free = rows-boxes limits closed cs w free (thin-lined closed thin (draw-none limits closed cs w .0 free .0 .near) fits)

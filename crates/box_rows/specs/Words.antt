@@ -26,5 +26,5 @@ pub record OneLine (s : Segment) : Type 0 where
   pub ends : s .end .ending .left ≡ s .end .ending .right
 
 -- the edges of every skeleton of a route do
-pub record Plain (closed : Bool) (cs : List ℤ) (w : ℤ) : Type 0 where
+pub record OneLined (closed : Bool) (cs : List ℤ) (w : ℤ) : Type 0 where
   pub each : (i : ℕ) → i < segmentCount closed cs → isSkeleton (segmentAt closed cs w i) ≡ true → OneLine (segmentAt closed cs w i)

@@ -50,27 +50,27 @@ module _ (limits : Limits) (closed : Bool) (cs : List ℤ) (w : ℤ) where
   route = joinsOf (limits .corner) closed cs w
 
   -- the rows of the walk's segments
-  abbrev pub drawn : ℕ → Rows
-  drawn i = drawnRows (segmentAt closed cs w i)
+  abbrev pub drawnAt : ℕ → Rows
+  drawnAt i = drawnRows (segmentAt closed cs w i)
 
   answer-is : d ≡ 0 → rowsAnswer limits closed cs w ≡ rowsIn route
   unfolding rowsAnswer
   answer-is e = rw (eq-eqb d 0 e)
 
-  walk-rows : d ≡ 0 → rowsAnswer limits closed cs w ≡ withAll (noRows 0) (listFrom drawn 0 (segmentCount closed cs))
+  walk-rows : d ≡ 0 → rowsAnswer limits closed cs w ≡ withAll (noRows 0) (listFrom drawnAt 0 (segmentCount closed cs))
   unfolding rowsIn joinsOf
   walk-rows e =
       answer-is e
-      ∙ ap (withAll (noRows 0)) (list-same (drawnIn route) drawn (segmentsOf closed (joinCount cs)) (λ i h. ap drawnRows (segment-is (limits .corner) closed cs w h)))
-      ∙ ap (λ m. withAll (noRows 0) (listFrom drawn 0 m)) (segments-all (draw-none limits closed cs w .0 e .0))
+      ∙ ap (withAll (noRows 0)) (list-same (drawnIn route) drawnAt (segmentsOf closed (joinCount cs)) (λ i h. ap drawnRows (segment-is (limits .corner) closed cs w h)))
+      ∙ ap (λ m. withAll (noRows 0) (listFrom drawnAt 0 m)) (segments-all (draw-none limits closed cs w .0 e .0))
 
-  pub rows-bounds : d ≡ 0 → 0 < segmentCount closed cs → Bounds drawn (segmentCount closed cs) (rowsAnswer limits closed cs w)
-  rows-bounds e some = rw (walk-rows e) (bounds drawn (segmentCount closed cs) some)
+  pub rows-bounds : d ≡ 0 → 0 < segmentCount closed cs → Bounds drawnAt (segmentCount closed cs) (rowsAnswer limits closed cs w)
+  rows-bounds e some = rw (walk-rows e) (bounds drawnAt (segmentCount closed cs) some)
 
   -- a route without segments has no rows
   pub rows-none-of : d ≡ 0 → segmentCount closed cs ≡ 0 → rowsAnswer limits closed cs w ≡ noRows 0
   unfolding withAll listFrom
-  rows-none-of e none = walk-rows e ∙ ap (λ m. withAll (noRows 0) (listFrom drawn 0 m)) none
+  rows-none-of e none = walk-rows e ∙ ap (λ m. withAll (noRows 0) (listFrom drawnAt 0 m)) none
 
   rows-chosen : (t : Bool) → eqb d 0 ≡ t → cond t (rowsIn route) (noRows d) .refusal ≡ d
   unfolding rowsIn
@@ -187,15 +187,15 @@ module _ (limits : Limits) (closed : Bool) (cs : List ℤ) (w : ℤ) where
         let is = answer-is limits closed cs w e in
         record {
           row = rowAt rows (f .at);
-          inside = record { some = ap (λ r. r .some) is ∙ some; from = rw is (b .0); upto = rw is (b .1) };
+          inside = record { some = ap (λ r. r .some) is ∙ some; among = rw is (record { from = b .0; to = b .1 }) };
           full = row-is (f .inside) .0 (rw (zero-add (f .at)) at (f .is));
         }
 
     row-full : SomeFull limits closed cs w → Found room 0 (rowCount rows) 8
     row-full s =
         let is = answer-is limits closed cs w e in
-        let h = s .inside in
-        let p = place-of near (ap (λ r. r .some) (sym is) ∙ h .some) (rw is at (h .from)) (rw is at (h .upto)) in
+        let h = rw is at (s .inside .among) in
+        let p = place-of near (ap (λ r. r .some) (sym is) ∙ s .inside .some) (h .from) (h .to) in
         let i = natAbs (s .row -ℤ rows .first) in
         record { at = i; inside = p .0; is = rw (zero-add i) (row-is (p .0) .1 (ap (rowRefusal limits closed cs w) (p .1) ∙ s .full)) }
 

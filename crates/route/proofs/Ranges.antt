@@ -14,7 +14,6 @@ use Rattle.whole.proofs.Spans.{within-lesser, within-greater}
 use Rattle.whole.proofs.Laws.{lesser-le, le-greater}
 use Rattle.thick_segment.specs.declared.Rows.{Rows}
 use Rattle.thick_segment.specs.Rows.{around}
-use Rattle.thick_segment.specs.Words.{EndsNear}
 use Rattle.thick_segment.proofs.Lit.{drawn-rows-near, rows-ordered}
 use Rattle.route.specs.declared.Joins.{Joins}
 use Rattle.route.specs.declared.RowRange.{RowRange}
@@ -25,9 +24,8 @@ use Rattle.route.proofs.Kept.{segment-near}
 -- ---- rows widened by those of segments
 
 -- rows that others may be widened by
-record Fits (k : ℕ) (r : Rows) : Type 0 where
-  near : EndsNear k r
-  ordered : r .first ≤ℤ r .last
+abbrev Fits : ℕ → Rows → Type 0
+Fits k r = RowsNear k (rangeOf r)
 
 module _ {k : ℕ} where
   with-near : {range : RowRange} {r : Rows} → RowsNear k range → Fits k r → RowsNear k (withRows range r)
@@ -38,23 +36,25 @@ module _ {k : ℕ} where
       by true =
           record {
             ordered = omega (linear, lesser-le (range .first) (r .first) .0, le-greater (range .last) (r .last) .0, near .ordered);
-            first-near = within-lesser (near .first-near) (fits .near .first-near);
-            last-near = within-greater (near .last-near) (fits .near .last-near);
+            first-near = within-lesser (near .first-near) (fits .first-near);
+            last-near = within-greater (near .last-near) (fits .last-near);
           }
-      by false = record { ordered = fits .ordered; first-near = fits .near .first-near; last-near = fits .near .last-near }
+      by false = fits
 
-  all-near : (drawn : ℕ → Rows) (i left : ℕ) {range : RowRange} → ((d : ℕ) → d < left → Fits k (drawn (i + d))) → RowsNear k range → RowsNear k (withAll range (listFrom drawn i left))
+  all-near : (drawnAt : ℕ → Rows) (i left : ℕ) {range : RowRange} → ((d : ℕ) → d < left → Fits k (drawnAt (i + d))) → RowsNear k range → RowsNear k (withAll range (listFrom drawnAt i left))
   unfolding withAll listFrom
-  all-near drawn i zero all near = near
-  all-near drawn i (suc left) all near =
+  all-near drawnAt i zero all near = near
+  all-near drawnAt i (suc left) all near =
       let here : i + 0 ≡ i = omega arith in
-      all-near drawn (suc i) left (λ d h. let on : suc i + d ≡ i + suc d = omega arith in rw on (all (suc d) (omega arith))) (with-near near (rw here at (all 0 (omega arith))))
+      all-near drawnAt (suc i) left (λ d h. let on : suc i + d ≡ i + suc d = omega arith in rw on (all (suc d) (omega arith))) (with-near near (rw here at (all 0 (omega arith))))
 
   pub rows-near : {route : Joins} → Kept k route → RowsNear k (rowsIn route)
   unfolding rowsIn
   rows-near {route} kept =
       all-near (drawnIn route) 0 (segmentsIn route)
-      (λ i h. rw (zero-add i) (record { near = drawn-rows-near (segmentIn route i) (segment-near kept h); ordered = rows-ordered (segmentIn route i) }))
+      (λ i h.
+      let near = drawn-rows-near (segmentIn route i) (segment-near kept h) in
+      rw (zero-add i) (record { ordered = rows-ordered (segmentIn route i); first-near = near .first-near; last-near = near .last-near }))
       (record { ordered = omega linear; first-near = record { bound = omega arith }; last-near = record { bound = omega arith } })
 
 -- ---- the rows between

@@ -6,18 +6,18 @@ use mathlib.Core.List.{List, [], _∷_, _++_}
 use Prim.Native.Nat.{ℕ, _*_, _<_}
 use lib.IntN.{ℤ, pos}
 use lib.ListN.{length, drop}
-use lib.Signed.{_≤ℤ_}
 use Rattle.whole.specs.Places.{listFrom}
 use Rattle.shapes.specs.Limits.{boardRuns}
 use Rattle.shapes.specs.declared.limits.Limits.{Limits}
 use Rattle.shapes.specs.declared.Span.{Span}
 use Rattle.thick_segment.specs.Segments.{spanOn}
-use Rattle.thick_segment.specs.Words.{drawnPoints, Lit}
+use Rattle.thick_segment.specs.Words.{drawnPoints, HasRow, Lit}
 use Rattle.board.specs.declared.Run.{Run}
 use Rattle.board.specs.Runs.{edge, Ascending}
 use Rattle.board_laws.specs.Histories.{Event, offers, covered, Lights, runsIn, columns}
 use Rattle.route_joins.specs.Joins.{segmentAt, segmentCount}
 use Rattle.route.specs.declared.RowRange.{RowRange}
+use Rattle.route.specs.Rows.{ends}
 use Rattle.route.specs.Answers.{rowsAnswer, rowRefusal, rowAnswer, rowTo}
 
 -- the span of each segment on a row, in walk order
@@ -49,11 +49,10 @@ pub record RowTold (limits : Limits) (closed : Bool) (cs : List ℤ) (w row : �
 
 -- ---- the rows of a route
 
--- a row is one of the rows
+-- a row is one of the rows, if there are any
 pub record Inside (rows : RowRange) (row : ℤ) : Type 0 where
   pub some : rows .some ≡ true
-  pub from : rows .first ≤ℤ row
-  pub upto : row ≤ℤ rows .last
+  pub among : HasRow (ends rows) row
 
 -- a line that is drawn of some segment of the walk has a point on the row
 pub record Drawn (closed : Bool) (cs : List ℤ) (w row : ℤ) : Type 0 where

@@ -1,6 +1,6 @@
 //! Corners that are run and not proved: squared miters of 36 and 37 at width 3, widths 64 and 65, coordinates 511 and 512 with
-//! either sign at each place, 32 and 33 runs, and a skeleton whose box has other rows than its drawn line. Here are the questions alone; what must be
-//! written stands in `stdout`, and comes from another calculation (oracle/README.md).
+//! either sign at each place, 32 and 33 runs, and a closed walk to a skeleton whose box has other rows than its drawn line. Here are
+//! the questions alone; what must be written stands in `stdout`, and comes from another calculation (oracle/README.md).
 ghost use Prim.Native.Nat.{_≤_, _<_};
 ghost use lib.ListN.{length};
 use board::Board;

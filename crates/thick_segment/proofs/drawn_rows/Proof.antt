@@ -1,4 +1,4 @@
-use mathlib.Core.Path.{_≡_, sym, _∙_}
+use mathlib.Core.Path.{_≡_, refl, sym, _∙_}
 use mathlib.Core.Bool.{true}
 use borrow.Author.Needs.{needs}
 use Rattle.shapes.specs.Limits.{cornerLimit}
@@ -16,11 +16,11 @@ drawn-rows-requires c κs = segment-room (c .before .before .args .segment) (ins
 
 returns : tie.Need-returns
 unfolding drawnRowsAnswer
-returns c = simp (inside (c .before), c .drawn-rows .ensures)
+returns c = simp (inside (c .before), c .drawn-rows .ensures) refl
 
 returns-2 : tie.Need-returns-2
 unfolding drawnRowsAnswer
-returns-2 c = simp (sym (c .before .is-segment-near .ensures) ∙ c .if1 .left)
+returns-2 c = simp (sym (c .before .is-segment-near .ensures) ∙ c .if1 .left) refl
 
 pub drawn-rows-spec : {M : Type 1} → statement M
 drawn-rows-spec = tie.close (tie.spec (λ c κs. search needs) drawn-rows-requires returns returns-2)

@@ -1,5 +1,5 @@
 -- `route::inner::with_rows` meets its contract. Assumes nothing.
-use mathlib.Core.Path.{_≡_, ap, _∙_}
+use mathlib.Core.Path.{_≡_, refl, ap, _∙_}
 use borrow.Author.Needs.{needs}
 use mir.Facts.{toZ-ofZ}
 use mir.Syntax.{w64}
@@ -23,13 +23,13 @@ returns c =
       w .before .before .if1 .taken,
       toZ-ofZ {w = w64} {z = r .first} (search needs) ∙ ap (λ r. r .first) (wide w),
       toZ-ofZ {w = w64} {z = r .last} (search needs) ∙ ap (λ r. r .last) (wide w),
-    )
+    ) refl
 
 returns-2 : tie.Need-returns-2
 unfolding withRows
 returns-2 c =
     let r = c .before .before .args .rows in
-    simp (c .before .if1 .left, toZ-ofZ {w = w64} {z = r .first} (search needs), toZ-ofZ {w = w64} {z = r .last} (search needs))
+    simp (c .before .if1 .left, toZ-ofZ {w = w64} {z = r .first} (search needs), toZ-ofZ {w = w64} {z = r .last} (search needs)) refl
 
 pub with-rows-spec : {M : Type 1} → statement M
 with-rows-spec = tie.close (tie.spec (λ c κs. search needs) returns returns-2)
