@@ -119,7 +119,7 @@ line-of-near p q = record { start-near = p; end-near = q }
 
 -- ---- the test for equal points
 
-point-is : {a : Point} {x y : ℤ} → a .x ≡ x → a .y ≡ y → a ≡ pointOf x y
+pub point-is : {a : Point} {x y : ℤ} → a .x ≡ x → a .y ≡ y → a ≡ pointOf x y
 point-is p q = rw (← p, ← q) refl
 
 pub same-exactly : (a b : Point) → (samePoint a b ≡ true) ↔ (a ≡ b)

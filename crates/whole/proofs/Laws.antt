@@ -111,7 +111,7 @@ close m e h =
     let rest = mod-lt (m + e / 2) h in
     record { above = omega arith; below = omega arith }
 
-some-abs : (d : ℤ) → d ≢ pos 0 → 0 < natAbs d
+pub some-abs : (d : ℤ) → d ≢ pos 0 → 0 < natAbs d
 some-abs (pos zero) h = absurd (h refl)
 some-abs (pos (suc n)) h = omega arith
 some-abs (negsuc n) h = omega arith

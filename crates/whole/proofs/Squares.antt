@@ -1,7 +1,8 @@
 -- Squares, how large a rounded quotient is, and tests and their opposites. Assumes nothing.
 use mathlib.Core.Path.{_≡_, refl, sym}
+use mathlib.Core.Logic.{⊎-elim}
 use mathlib.Core.Bool.{Bool, true, false, cond}
-use Prim.Native.Nat.{ℕ, _+_, _*_, _<_}
+use Prim.Native.Nat.{ℕ, _+_, _-_, _*_, _≤_, _<_}
 use native.Mathlib.Nat.{mul-le-mul, div-le-self}
 use native.Mathlib.Omega.{arith}
 use borrow.Author.Tests.{ltb-true, leb-false, lt-ltb, lt-leb}
@@ -9,7 +10,7 @@ use lib.IntN.{ℤ, pos, negsuc, natAbs, _+ℤ_, _-ℤ_, _*ℤ_}
 use lib.Signed.{ltZ, leZ}
 use Rattle.whole.specs.Number.{Within}
 use Rattle.whole.specs.Rounded.{rounded, half}
-use Rattle.whole.proofs.Linear.{linear}
+use Rattle.whole.proofs.Linear.{linear, le-or-lt}
 use Rattle.whole.proofs.Tests.{le-iff}
 use Rattle.whole.proofs.Bounds.{within-add, within-sub, within-quot, within-more}
 
@@ -30,6 +31,13 @@ module _ (x y : ℤ) (n : ℕ) where
 
   pub squares-beyond-right : n < natAbs y → leZ (x *ℤ x +ℤ y *ℤ y) (pos n *ℤ pos n) ≡ false
   squares-beyond-right h = beyond (omega (arith, mul-le-mul h h))
+
+-- twice a product is at most the sum of the squares
+pub two-squares : (x y : ℕ) → 2 * x * y ≤ x * x + y * y
+two-squares x y = ⊎-elim (λ low. by x (y - x) y (omega arith)) (λ high. omega (arith, by y (x - y) x (omega arith))) (le-or-lt x y)
+  where
+    by : (m k n : ℕ) → n ≡ m + k → 2 * m * n ≤ m * m + n * n
+    by m k n e = rw e (omega arith)
 
 -- ---- a rounded quotient is no larger than its dividend and its divisor together
 

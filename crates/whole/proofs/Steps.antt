@@ -1,6 +1,6 @@
 -- Laws for walks that go by single steps: how far a step leads, squares, absolute values. Assumes nothing.
-use mathlib.Core.Path.{_≡_, refl}
-use mathlib.Core.Logic.{_⊎_, ⊎-elim}
+use mathlib.Core.Path.{_≡_, refl, ap}
+use mathlib.Core.Logic.{_⊎_, inl, inr, ⊎-elim}
 use Prim.Native.Nat.{ℕ, suc, _+_, _*_, _/_, _≤_}
 use native.Mathlib.Nat.{mul-le-mul, mul-le-mul-left}
 use native.Mathlib.Omega.{arith}
@@ -35,6 +35,11 @@ far-near x o =
     let size = abs-parts (x -ℤ o) in
     let at = abs-parts o in
     abs-le x (omega arith) (omega arith)
+
+-- a step of just one goes the one way or the other
+pub one-or : (s : ℤ) → natAbs s ≡ 1 → (s ≡ pos 1) ⊎ (s ≡ negsuc 0)
+one-or (pos n) e = inl (ap pos e)
+one-or (negsuc n) e = inr (ap negsuc (omega (arith, e)))
 
 -- ---- squares keep the order
 
