@@ -1,0 +1,134 @@
+-- The edges of a leg of which one is Extra do not come to one square within a miter's reach of where the leg starts. Assumes nothing.
+use mathlib.Core.Path.{_≡_, refl, ap}
+use mathlib.Core.Logic.{_⊎_, inl, inr, ⊎-elim}
+use mathlib.Core.Bool.{Bool, true, false}
+use Prim.Native.Nat.{ℕ, zero, _+_, _-_, _*_, _/_, _≤_, _<_}
+use native.Mathlib.Nat.{mul-le-mul, mul-le-mul-left}
+use native.Mathlib.Omega.{arith}
+use borrow.Author.Tests.{ltb-true, eqb-true}
+use lib.Dec.{ltb, eqb}
+use lib.IntN.{ℤ, pos, natAbs, negℤ, _+ℤ_, _-ℤ_, _*ℤ_, negℤ-negℤ}
+use Rattle.whole.proofs.Bounds.{abs-neg, abs-add, abs-mul}
+use Rattle.whole.proofs.Linear.{linear, sum, diff, abs-parts, le-or-lt}
+use Rattle.whole.proofs.Ring.{con, _⊕_, _⊖_, _⊗_, _≈_, ring}
+use Rattle.whole.proofs.Steps.{square-le}
+use Rattle.whole.proofs.Tests.{and-left, and-right}
+use Rattle.skeletons.specs.Treads.{Mark, Arrived, mostOf, marched}
+use Rattle.skeletons.proofs.Apart.{Apart, gap, apart, gap-wide, two-steps}
+use Rattle.skeletons.proofs.Distances.{Wide, Close, never-long, never-wide, wide-of, late-of, extra-wide}
+use Rattle.skeletons.proofs.Sights.{Normal, Extra, Sighted, normal, extra}
+use Rattle.skeletons.proofs.Small.{byGap, byAxis, keeps, keptBy, isOdd, few-keep, many-keep}
+use Rattle.skeletons.proofs.Together.{gapOf, both-normal, both-extra, one-extra, along-axis}
+
+-- a Normal edge n and e steps out on the one side, and an Extra one p and f on the other
+module _ (b c w n e p f : ℕ) (x y : ℤ) where
+  abbrev g : ℕ
+  g = gapOf (b + c + 1) (b + 1) n e p f x y
+
+  -- seen from an end of the leg, at which the Extra one is s nearer along the major axis
+  pub closes : (s : ℤ) → natAbs y ≤ 2 * w → Normal (b + c + 1) (b + 1) (x -ℤ pos n) (y -ℤ pos e) → Extra (b + c + 1) (b + 1) (negℤ x -ℤ pos p +ℤ s) (negℤ y -ℤ pos f -ℤ s)
+      → Close b c w (2 * c * (b + c + 1) * natAbs s) g f
+  closes s low h k =
+      let far = pos g -ℤ s *ℤ pos c in
+      let gap : g ≤ natAbs far + natAbs s * c = omega (arith, abs-parts far, abs-parts (s *ℤ pos c), diff (pos g) (s *ℤ pos c), abs-mul s (pos c)) in
+      let end : natAbs (y +ℤ pos f +ℤ s) ≤ 2 * w + f + natAbs s = omega (arith, abs-add (y +ℤ pos f) s, abs-add y (pos f)) in
+      omega (arith, one-extra b c n e p f x y s h k, mul-le-mul-left (2 * (b + c)) gap, mul-le-mul-left (2 * c) end)
+
+  module _ (disc : natAbs x * natAbs x + natAbs y * natAbs y ≤ 2 * w * (2 * w)) (some : 1 ≤ b + c) (h : Normal (b + c + 1) (b + 1) (x -ℤ pos n) (y -ℤ pos e)) (k : Extra (b + c + 1) (b + 1) (negℤ x -ℤ pos p +ℤ pos 0) (negℤ y -ℤ pos f -ℤ pos 0)) where
+    close-start : Close b c w 0 g f
+    close-start = omega (arith, closes (pos 0) (square-le (natAbs y) (2 * w) (omega arith)) h k)
+
+    gap-no : byGap b c w n e p f ≡ true → ⊥
+    gap-no t = omega (arith, close-start, ltb-true)
+
+    axis-no : byAxis b c w n e p ≡ true → ⊥
+    axis-no t =
+        let far = (c + 1) * (n + p) + e - (c + 2) / 2 in
+        let beyond : 2 * w * (2 * w) < p * p + far * far = ltb-true (2 * w * (2 * w)) (p * p + far * far) (and-right (eqb b 0) (ltb (2 * w * (2 * w)) (p * p + far * far)) t) in
+        let thin : b ≡ 0 = eqb-true b 0 (and-left (eqb b 0) (ltb (2 * w * (2 * w)) (p * p + far * far)) t) in
+        let larger : b + c + 1 ≡ c + 1 = omega (arith, thin) in
+        let smaller : b + 1 ≡ 1 = omega (arith, thin) in
+        let a = along-axis c n e p f x y (pos 0) (omega (arith, thin)) (rw (larger, smaller) at h) (rw (larger, smaller) at k) in
+        let to = pos ((c + 1) * (n + p) + e) in
+        let is : y -ℤ pos e -ℤ pos (c + 1) *ℤ (pos (n + p) -ℤ pos 0) ≡ y -ℤ to = ring 4 (λ c m e y. y ⊖ e ⊖ (c ⊕ con (pos 1)) ⊗ (m ⊖ con (pos 0)) ≈ y ⊖ ((c ⊕ con (pos 1)) ⊗ m ⊕ e)) refl (pos c) (pos (n + p)) (pos e) y in
+        let off = ap natAbs is in
+        let y-far : far ≤ natAbs y = omega (arith, a .far, off, abs-parts y, abs-parts (y -ℤ to), diff y to) in
+        let x-far : p ≤ natAbs x = omega (linear, a .at, abs-parts x, diff (pos 0) (pos p)) in
+        omega (arith, mul-le-mul {n₁ = p} {m₁ = p} x-far x-far, mul-le-mul {n₁ = far} {m₁ = far} y-far y-far)
+
+    keeps-no : keeps b c w n e p f ≡ true → ⊥
+    keeps-no t = by (byGap b c w n e p f) refl
+      where
+        by : (u : Bool) → byGap b c w n e p f ≡ u → ⊥
+        by true e = gap-no e
+        by false e = axis-no (rw e at t)
+
+    -- so they keep apart: a gap as wide as the width asks for is too wide, and short legs are computed
+    start-no : 3 ≤ w → 4 * c * f ≤ g → Wide b c w 0 g → (b + c < 8 → w ≤ 10 → keeps b c w n e p f ≡ true) → (b ≡ 0 → c ≡ 1 → 11 ≤ w → keeps b c w n e p f ≡ true) → ⊥
+    start-no three late wide few many =
+        ⊎-elim
+        (λ long. let is : w ≡ 3 + (w - 3) = omega arith in never-long b c (w - 3) g f long late (rw is at wide) (rw is at close-start))
+        (λ small. ⊎-elim (λ ten. keeps-no (few small ten))
+        (λ eleven.
+        let is : w ≡ 11 + (w - 11) = omega arith in
+        let broad : (1 ≤ b) ⊎ (2 ≤ c) → ⊥ = λ more. never-wide b c (w - 11) g f more late (rw is at wide) (rw is at close-start) in
+        ⊎-elim (λ some. broad (inl some)) (λ none. ⊎-elim (λ two. broad (inr two)) (λ one. keeps-no (many (omega arith) (omega arith) eleven)) (le-or-lt 2 c)) (le-or-lt 1 b))
+        (le-or-lt w 10))
+        (le-or-lt 8 (b + c))
+
+-- ---- both edges of a leg
+
+module _ (b c w : ℕ) (flip : Bool) (three : 3 ≤ w) where
+  abbrev pub legs : Arrived
+  legs = marched (b + c + 1) (b + 1) flip w
+
+  pub pays : Apart (b + c + 1) (b + 1) (mostOf (b + c + 1) (b + 1) w) legs
+  pays = apart (omega arith) (omega arith) (omega arith) flip
+
+  gap-more : b + c + 1 + (b + 1) < gap (b + c + 1) (b + 1) legs
+  gap-more = gap-wide (omega arith) (omega arith) three flip
+
+  steps-more : 2 ≤ legs .left .n + legs .right .n
+  steps-more = two-steps (omega arith) (omega arith) three flip
+
+  -- a Normal edge and an Extra one on whichever side keep apart: so do any two
+  pub whichever : (x y s : ℤ) → 1 ≤ b + c
+      → (legs .left .extra ≡ false → legs .right .extra ≡ true → Normal (b + c + 1) (b + 1) (x -ℤ pos (legs .left .n)) (y -ℤ pos (legs .left .e)) → Extra (b + c + 1) (b + 1) (negℤ x -ℤ pos (legs .right .n) +ℤ negℤ s) (negℤ y -ℤ pos (legs .right .e) -ℤ negℤ s) → ⊥)
+      → (legs .left .extra ≡ true → legs .right .extra ≡ false → Normal (b + c + 1) (b + 1) (negℤ x -ℤ pos (legs .right .n)) (negℤ y -ℤ pos (legs .right .e)) → Extra (b + c + 1) (b + 1) (x -ℤ pos (legs .left .n) +ℤ s) (y -ℤ pos (legs .left .e) -ℤ s) → ⊥)
+      → Sighted (b + c + 1) (b + 1) x y s (legs .left) → Sighted (b + c + 1) (b + 1) (negℤ x) (negℤ y) (negℤ s) (legs .right) → ⊥
+  whichever x y s some right left (normal lt h) (normal rt k) = omega (arith, gap-more, both-normal (b + c + 1) (b + 1) (legs .left .n) (legs .left .e) (legs .right .n) (legs .right .e) x y h k)
+  whichever x y s some right left (normal lt h) (extra rt k) = right lt rt h k
+  whichever x y s some right left (extra lt h) (normal rt k) = left lt rt k h
+  whichever x y s some right left (extra lt h) (extra rt k) =
+      extra-wide b c (legs .left .n + legs .right .n) (legs .left .e + legs .right .e) some steps-more (omega (arith, gap-more)) (omega (arith, both-extra (b + c + 1) (b + 1) (legs .left .n) (legs .left .e) (legs .right .n) (legs .right .e) x y s h k))
+
+  module _ (most : w ≤ 64) (x y : ℤ) (disc : natAbs x * natAbs x + natAbs y * natAbs y ≤ 2 * w * (2 * w)) (some : 1 ≤ b + c) (even : flip ≡ true → isOdd b c w ≡ false) where
+    abbrev l : Mark
+    l = legs .left
+
+    abbrev r : Mark
+    r = legs .right
+
+    -- on the right, or on the left
+    right-extra : l .extra ≡ false → r .extra ≡ true → Normal (b + c + 1) (b + 1) (x -ℤ pos (l .n)) (y -ℤ pos (l .e)) → Extra (b + c + 1) (b + 1) (negℤ x -ℤ pos (r .n) +ℤ pos 0) (negℤ y -ℤ pos (r .e) -ℤ pos 0) → ⊥
+    unfolding keptBy
+    right-extra lt rt h k =
+        let prices = rw (lt, rt) at (pays .paid) in
+        start-no b c w (l .n) (l .e) (r .n) (r .e) x y disc some h k three
+        (late-of b c (r .n) (r .e) _ (pays .right-fairly .late rt) (omega arith))
+        (wide-of b c w 0 (legs .sum) _ (pays .over) (omega (arith, prices)))
+        (λ small ten. rw (lt, rt) at (few-keep b c w flip some small three ten even))
+        (λ zero one eleven. rw (lt, rt) at (many-keep b c w flip zero one eleven most))
+
+    left-extra : l .extra ≡ true → r .extra ≡ false → Normal (b + c + 1) (b + 1) (negℤ x -ℤ pos (r .n)) (negℤ y -ℤ pos (r .e)) → Extra (b + c + 1) (b + 1) (x -ℤ pos (l .n) +ℤ pos 0) (y -ℤ pos (l .e) -ℤ pos 0) → ⊥
+    unfolding keptBy
+    left-extra lt rt h k =
+        let prices = rw (lt, rt) at (pays .paid) in
+        start-no b c w (r .n) (r .e) (l .n) (l .e) (negℤ x) (negℤ y) (rw (abs-neg x, abs-neg y) disc) some h (rw (negℤ-negℤ x, negℤ-negℤ y) k) three
+        (late-of b c (l .n) (l .e) _ (pays .left-fairly .late lt) (omega arith))
+        (wide-of b c w 0 (legs .sum) _ (pays .over) (omega (arith, prices)))
+        (λ small ten. rw (lt, rt) at (few-keep b c w flip some small three ten even))
+        (λ zero one eleven. rw (lt, rt) at (many-keep b c w flip zero one eleven most))
+
+    pub starts-apart : Sighted (b + c + 1) (b + 1) x y (pos 0) l → Sighted (b + c + 1) (b + 1) (negℤ x) (negℤ y) (pos 0) r → ⊥
+    starts-apart = whichever x y (pos 0) some right-extra left-extra
