@@ -1,0 +1,89 @@
+-- The rows of every route that is accepted are those of 01's boxes: at widths 0 and 1 both edges of a segment lie on one line, and from width 2 on no segment is a skeleton. Assumes nothing.
+use mathlib.Core.Path.{_≡_, refl}
+use mathlib.Core.Logic.{inl, inr}
+use mathlib.Core.Bool.{Bool, true, false}
+use mathlib.Core.List.{List}
+use Prim.Native.Nat.{ℕ, zero, suc, _+_, _-_, _≤_}
+use native.Mathlib.Omega.{arith}
+use lib.Dec.{eqb}
+use lib.IntN.{ℤ, pos, negsuc}
+use Rattle.whole.proofs.Linear.{linear}
+use Rattle.whole.proofs.Tests.{either}
+use Rattle.shapes.specs.declared.Point.{Point}
+use Rattle.shapes.specs.declared.Offset.the-variants.{None}
+use Rattle.shapes.specs.declared.limits.Limits.{Limits}
+use Rattle.shapes.specs.Limits.{lineLimit, widthLimit}
+use Rattle.shapes.specs.Shape.{Near}
+use Rattle.shapes.specs.Strokes.{Thin}
+use Rattle.shapes.proofs.Laws.{near-more, line-of-near, same-exactly}
+use Rattle.line_join.specs.declared.Join.{Join}
+use Rattle.line_join.specs.Join.{startOf, endOf, joinOf}
+use Rattle.skeletons.proofs.Corners.{Apart}
+use Rattle.skeletons.proofs.Skeletons.{start-apart, end-apart, bend-apart}
+use Rattle.thick_segment.specs.Segments.{isSkeleton}
+use Rattle.coordinates.specs.Points.{pointAt, pointCount, placeBefore, placeAfter}
+use Rattle.coordinates.specs.Refusal.{AllWithin}
+use Rattle.coordinates.proofs.Lists.{point-near}
+use Rattle.route_joins.specs.Joins.{bendAt, openJoin, closedJoin, joinOn, endPlace, segmentOf}
+use Rattle.route.specs.Answers.{drawRefusal, rowsAnswer}
+use Rattle.route.proofs.Refused.{draw-none}
+use Rattle.box_rows.specs.Words.{boxRange, OneLined}
+use Rattle.box_rows.proofs.Boxes.{rows-boxes}
+use Rattle.box_rows.proofs.Thin.{Thinnest, Merged, start-merged, end-merged, bend-merged}
+
+-- what holds of the joins of points within the limit
+record Of (w : ℤ) (P : Join → Type 0) : Type 0 where
+  at-start : {a b : Point} → Near lineLimit a → Near lineLimit b → P (startOf a b w None)
+  at-end : {a b : Point} → Near lineLimit a → Near lineLimit b → P (endOf a b w None)
+  at-bend : {a b c : Point} → Near lineLimit a → Near lineLimit b → Near lineLimit c → P (joinOf a b c w None)
+
+-- holds of all joins of a route
+module _ {k : ℕ} {cs : List ℤ} {w : ℤ} (near : AllWithin k cs) (fits : k ≤ lineLimit) {P : Join → Type 0} (of : Of w P) where
+  near-at : (i : ℕ) → Near lineLimit (pointAt cs i)
+  near-at i = near-more (point-near near i) fits
+
+  bend-by : (h i j : ℕ) → P (bendAt cs w None h i j)
+  unfolding bendAt
+  bend-by h i j = of .at-bend (near-at h) (near-at i) (near-at j)
+
+  join-by : (closed : Bool) (i : ℕ) → P (joinOn closed cs w None i)
+  unfolding joinOn openJoin closedJoin
+  join-by true i = either P (eqb (pointCount cs + i) 2) (λ _. of .at-start (near-at 0) (near-at 1)) (λ _. bend-by (placeBefore (pointCount cs) i) i (placeAfter (pointCount cs) i))
+  join-by false i =
+      either P (eqb i 0) (λ _. of .at-start (near-at 0) (near-at 1))
+      (λ _. either P (eqb (i + 1) (pointCount cs)) (λ _. of .at-end (near-at (i - 1)) (near-at i)) (λ _. bend-by (i - 1) i (i + 1)))
+
+merged-of : {w : ℤ} → Thinnest w → Of w Merged
+merged-of thin = record { at-start = start-merged thin; at-end = end-merged thin; at-bend = bend-merged thin }
+
+apart-of : {w : ℕ} → 2 ≤ w → w ≤ widthLimit → Of (pos w) Apart
+apart-of two most =
+    record {
+      at-start = λ a b. start-apart two most (line-of-near a b);
+      at-end = λ a b. end-apart two most (line-of-near a b);
+      at-bend = λ a b c. bend-apart two most (line-of-near a b) (line-of-near b c);
+    }
+
+module _ (closed : Bool) {k : ℕ} {cs : List ℤ} (near : AllWithin k cs) (fits : k ≤ lineLimit) where
+  thin-lined : {w : ℤ} → Thinnest w → OneLined closed cs w
+  unfolding segmentOf
+  thin-lined thin =
+      let one = join-by near fits (merged-of thin) closed in
+      record { each = λ i h e. record { starts = one i .starting-one; ends = one (endPlace closed (pointCount cs) i) .ending-one } }
+
+  -- no segment is a skeleton
+  thick-lined : {w : ℕ} → 2 ≤ w → w ≤ widthLimit → OneLined closed cs (pos w)
+  unfolding segmentOf isSkeleton
+  thick-lined {w} two most =
+      let two-corners = join-by near fits (apart-of two most) closed in
+      record { each = λ i h e. let j = joinOn closed cs (pos w) None i in absurd (two-corners i (same-exactly (j .ending .left) (j .ending .right) .0 e)) }
+
+  every-lined : (w : ℤ) → Thin w → OneLined closed cs w
+  every-lined (pos zero) thin = thin-lined (inl refl)
+  every-lined (pos (suc zero)) thin = thin-lined (inr refl)
+  every-lined (pos (suc (suc n))) thin = thick-lined (omega arith) (omega (linear, thin .high))
+  every-lined (negsuc n) thin = absurd (omega (linear, thin .low))
+
+-- for every route that is accepted, the rows are those that 01 had before
+pub rows-unchanged : (limits : Limits) (closed : Bool) (cs : List ℤ) (w : ℤ) → limits .point ≤ lineLimit → drawRefusal limits closed cs w ≡ 0 → rowsAnswer limits closed cs w ≡ boxRange closed cs w
+rows-unchanged limits closed cs w fits free = let a = draw-none limits closed cs w .0 free .0 in rows-boxes limits closed cs w free (every-lined closed (a .near) fits w (a .thin))
