@@ -1,1 +1,1 @@
-//! No code: from width 2 on no join of strokes on both sides of their lines begins a skeleton (specs/Treads.antt, proofs/).
+//! No code: with strokes on both sides of its line, no join from width 2 to 64 begins a skeleton (specs/Treads.antt, proofs/).
