@@ -24,10 +24,10 @@ use Rattle.thick_segment.specs.Segments.{isSkeleton}
 use Rattle.coordinates.specs.Points.{pointAt, pointCount, placeBefore, placeAfter}
 use Rattle.coordinates.specs.Refusal.{AllWithin}
 use Rattle.coordinates.proofs.Lists.{point-near}
-use Rattle.route_joins.specs.Joins.{bendAt, openJoin, closedJoin, joinOn, endPlace, segmentOf}
+use Rattle.route_joins.specs.Joins.{bendAt, openJoin, closedJoin, joinOn, endPlace, segmentAt, segmentOf}
 use Rattle.route.specs.Answers.{drawRefusal, rowsAnswer}
 use Rattle.route.proofs.Refused.{draw-none}
-use Rattle.box_rows.specs.Words.{boxRange, OneLined}
+use Rattle.box_rows.specs.Words.{boxRange, OneLine}
 use Rattle.box_rows.proofs.Boxes.{rows-boxes}
 use Rattle.box_rows.proofs.Thin.{Thinnest, Merged, start-merged, end-merged, bend-merged}
 
@@ -65,25 +65,27 @@ apart-of two most =
     }
 
 module _ (closed : Bool) {k : ℕ} {cs : List ℤ} (near : AllWithin k cs) (fits : k ≤ lineLimit) where
-  thin-lined : {w : ℤ} → Thinnest w → OneLined closed cs w
+  thin-line : {w : ℤ} → Thinnest w → (i : ℕ) → OneLine (segmentAt closed cs w i)
   unfolding segmentOf
-  thin-lined thin =
-      let one = join-by near fits (merged-of thin) closed in
-      record { each = λ i h e. record { starts = one i .starting-one; ends = one (endPlace closed (pointCount cs) i) .ending-one } }
+  thin-line thin i = let one = join-by near fits (merged-of thin) closed in record { starts = one i .starting-one; ends = one (endPlace closed (pointCount cs) i) .ending-one }
 
-  -- no segment is a skeleton
-  thick-lined : {w : ℕ} → 2 ≤ w → w ≤ widthLimit → OneLined closed cs (pos w)
+  never-thick : {w : ℕ} → 2 ≤ w → w ≤ widthLimit → (i : ℕ) → isSkeleton (segmentAt closed cs (pos w) i) ≡ true → ⊥
   unfolding segmentOf isSkeleton
-  thick-lined {w} two most =
-      let two-corners = join-by near fits (apart-of two most) closed in
-      record { each = λ i h e. let j = joinOn closed cs (pos w) None i in absurd (two-corners i (same-exactly (j .ending .left) (j .ending .right) .0 e)) }
+  never-thick {w} two most i e = let j = joinOn closed cs (pos w) None i in join-by near fits (apart-of two most) closed i (same-exactly (j .ending .left) (j .ending .right) .0 e)
 
-  every-lined : (w : ℤ) → Thin w → OneLined closed cs w
-  every-lined (pos zero) thin = thin-lined (inl refl)
-  every-lined (pos (suc zero)) thin = thin-lined (inr refl)
-  every-lined (pos (suc (suc n))) thin = thick-lined (omega arith) (omega (linear, thin .high))
-  every-lined (negsuc n) thin = absurd (omega (linear, thin .low))
+  skeleton-thin : (w : ℤ) → Thin w → (i : ℕ) → isSkeleton (segmentAt closed cs w i) ≡ true → Thinnest w
+  skeleton-thin (pos zero) thin i e = inl refl
+  skeleton-thin (pos (suc zero)) thin i e = inr refl
+  skeleton-thin (pos (suc (suc n))) thin i e = absurd (never-thick (omega arith) (omega (linear, thin .high)) i e)
+  skeleton-thin (negsuc n) thin i e = absurd (omega (linear, thin .low))
 
--- for every route that is accepted, the rows are those that 01 had before
-pub rows-unchanged : (limits : Limits) (closed : Bool) (cs : List ℤ) (w : ℤ) → limits .point ≤ lineLimit → drawRefusal limits closed cs w ≡ 0 → rowsAnswer limits closed cs w ≡ boxRange closed cs w
-rows-unchanged limits closed cs w fits free = let a = draw-none limits closed cs w .0 free .0 in rows-boxes limits closed cs w free (every-lined closed (a .near) fits w (a .thin))
+-- ---- every route that is accepted
+
+module _ (limits : Limits) (closed : Bool) (cs : List ℤ) (w : ℤ) (fits : limits .point ≤ lineLimit) (free : drawRefusal limits closed cs w ≡ 0) where
+  -- has skeletons at widths 0 and 1 only
+  pub skeletons-thin : (i : ℕ) → isSkeleton (segmentAt closed cs w i) ≡ true → Thinnest w
+  skeletons-thin = let a = draw-none limits closed cs w .0 free .0 in skeleton-thin closed (a .near) fits w (a .thin)
+
+  -- and the rows that 01 had before
+  pub rows-unchanged : rowsAnswer limits closed cs w ≡ boxRange closed cs w
+  rows-unchanged = let a = draw-none limits closed cs w .0 free .0 in rows-boxes limits closed cs w free (record { each = λ i h e. thin-line closed (a .near) fits (skeletons-thin i e) i })
