@@ -34,7 +34,7 @@ use Rattle.route.specs.declared.RowRange.{RowRange}
 use Rattle.route.specs.Joined.{joinsOf}
 use Rattle.route.specs.Rows.{noRows, ends, withAll}
 use Rattle.route.specs.Answers.{drawRefusal, rowsAnswer}
-use Rattle.route.proofs.Bounds.{bounds, bounds-least}
+use Rattle.route.proofs.Bounds.{Bounds, bounds, bounds-least}
 use Rattle.route.proofs.AllRows.{all-refusal, rows-bounds, rows-none-of, rows-refusal}
 use Rattle.route.proofs.Kept.{segment-near, segments-all, segment-is, kept-joins}
 use Rattle.route.proofs.Refused.{draw-none}
@@ -146,7 +146,13 @@ module _ (closed : Bool) (cs : List ℤ) (w : ℤ) (several : 2 ≤ pointCount c
       let p = place-inside closed h in
       rows-among (segmentAt closed cs w i) (has i (p .0)) (has (endPlace closed (pointCount cs) i) (p .1))
 
--- ---- the boxes are those that `edges_bounding_box` answers
+-- ---- 01's old rows are the least that hold all boxes
+
+pub box-bounds : (closed : Bool) (cs : List ℤ) (w : ℤ) → 0 < segmentCount closed cs → Bounds (boxed closed cs w) (segmentCount closed cs) (boxRange closed cs w)
+unfolding boxRange
+box-bounds closed cs w h = bounds (boxed closed cs w) (segmentCount closed cs) h
+
+-- the boxes are those that `edges_bounding_box` answers
 
 module _ (limits : Limits) (closed : Bool) (cs : List ℤ) (w : ℤ) (free : drawRefusal limits closed cs w ≡ 0) {i : ℕ} (h : i < segmentCount closed cs) where
   segment-corners : SegmentNear (limits .corner) (segmentAt closed cs w i)
@@ -179,7 +185,7 @@ module _ (limits : Limits) (closed : Bool) (cs : List ℤ) (w : ℤ) (free : dra
   unfolding boxRange segmentCount
   some-rows h =
       let b = rows-bounds limits closed cs w free h in
-      let o = bounds (boxed closed cs w) (segmentCount closed cs) h in
+      let o = box-bounds closed cs w h in
       let several = several-by (pointCount cs) closed (draw-none limits closed cs w .0 free .0 .several) h in
       let none = all-refusal (noRows 0) (listFrom (boxed closed cs w) 0 (segmentCount closed cs)) refl in
       same-range (rows-refusal limits closed cs w ∙ free ∙ sym none) (b .some ∙ sym (o .some))

@@ -1,3 +1,3 @@
 pub mod Boxes
 pub mod Same
-pub mod Thin
+pub mod Thinnest

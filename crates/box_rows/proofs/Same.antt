@@ -1,5 +1,5 @@
 -- The rows of every route that is accepted are those of 01's boxes: at widths 0 and 1 both edges of a segment lie on one line, and from width 2 on no segment is a skeleton. Assumes nothing.
-use mathlib.Core.Path.{_≡_, refl}
+use mathlib.Core.Path.{_≡_, refl, sym, _∙_}
 use mathlib.Core.Logic.{inl, inr}
 use mathlib.Core.Bool.{Bool, true, false}
 use mathlib.Core.List.{List}
@@ -12,7 +12,7 @@ use Rattle.whole.proofs.Tests.{either}
 use Rattle.shapes.specs.declared.Point.{Point}
 use Rattle.shapes.specs.declared.Offset.the-variants.{None}
 use Rattle.shapes.specs.declared.limits.Limits.{Limits}
-use Rattle.shapes.specs.Limits.{lineLimit, widthLimit}
+use Rattle.shapes.specs.Limits.{lineLimit, widthLimit, panel}
 use Rattle.shapes.specs.Shape.{Near}
 use Rattle.shapes.specs.Strokes.{Thin}
 use Rattle.shapes.proofs.Laws.{near-more, line-of-near, same-exactly}
@@ -26,19 +26,20 @@ use Rattle.coordinates.specs.Refusal.{AllWithin}
 use Rattle.coordinates.proofs.Lists.{point-near}
 use Rattle.route_joins.specs.Joins.{bendAt, openJoin, closedJoin, joinOn, endPlace, segmentAt, segmentOf}
 use Rattle.route.specs.Answers.{drawRefusal, rowsAnswer}
+use Rattle.route.proofs.AllRows.{rows-refusal}
 use Rattle.route.proofs.Refused.{draw-none}
 use Rattle.box_rows.specs.Words.{boxRange, OneLine}
 use Rattle.box_rows.proofs.Boxes.{rows-boxes}
-use Rattle.box_rows.proofs.Thin.{Thinnest, Merged, start-merged, end-merged, bend-merged}
+use Rattle.box_rows.proofs.Thinnest.{Thinnest, Merged, start-merged, end-merged, bend-merged}
 
 -- what holds of the joins of points within the limit
-record Of (w : ℤ) (P : Join → Type 0) : Type 0 where
+record OfJoins (w : ℤ) (P : Join → Type 0) : Type 0 where
   at-start : {a b : Point} → Near lineLimit a → Near lineLimit b → P (startOf a b w None)
   at-end : {a b : Point} → Near lineLimit a → Near lineLimit b → P (endOf a b w None)
   at-bend : {a b c : Point} → Near lineLimit a → Near lineLimit b → Near lineLimit c → P (joinOf a b c w None)
 
 -- holds of all joins of a route
-module _ {k : ℕ} {cs : List ℤ} {w : ℤ} (near : AllWithin k cs) (fits : k ≤ lineLimit) {P : Join → Type 0} (of : Of w P) where
+module _ {k : ℕ} {cs : List ℤ} {w : ℤ} (near : AllWithin k cs) (fits : k ≤ lineLimit) {P : Join → Type 0} (of : OfJoins w P) where
   near-at : (i : ℕ) → Near lineLimit (pointAt cs i)
   near-at i = near-more (point-near near i) fits
 
@@ -53,10 +54,10 @@ module _ {k : ℕ} {cs : List ℤ} {w : ℤ} (near : AllWithin k cs) (fits : k �
       either P (eqb i 0) (λ _. of .at-start (near-at 0) (near-at 1))
       (λ _. either P (eqb (i + 1) (pointCount cs)) (λ _. of .at-end (near-at (i - 1)) (near-at i)) (λ _. bend-by (i - 1) i (i + 1)))
 
-merged-of : {w : ℤ} → Thinnest w → Of w Merged
+merged-of : {w : ℤ} → Thinnest w → OfJoins w Merged
 merged-of thin = record { at-start = start-merged thin; at-end = end-merged thin; at-bend = bend-merged thin }
 
-apart-of : {w : ℕ} → 2 ≤ w → w ≤ widthLimit → Of (pos w) Apart
+apart-of : {w : ℕ} → 2 ≤ w → w ≤ widthLimit → OfJoins (pos w) Apart
 apart-of two most =
     record {
       at-start = λ a b. start-apart two most (line-of-near a b);
@@ -89,3 +90,7 @@ module _ (limits : Limits) (closed : Bool) (cs : List ℤ) (w : ℤ) (fits : lim
   -- and the rows that 01 had before
   pub rows-unchanged : rowsAnswer limits closed cs w ≡ boxRange closed cs w
   rows-unchanged = let a = draw-none limits closed cs w .0 free .0 in rows-boxes limits closed cs w free (record { each = λ i h e. thin-line closed (a .near) fits (skeletons-thin i e) i })
+
+-- so what the entry `rows` answers is what it answered, unless it refuses
+pub answer-unchanged : (closed : Bool) (cs : List ℤ) (w : ℤ) → rowsAnswer panel closed cs w .refusal ≡ 0 → rowsAnswer panel closed cs w ≡ boxRange closed cs w
+answer-unchanged closed cs w free = rows-unchanged panel closed cs w (omega arith) (sym (rows-refusal panel closed cs w) ∙ free)

@@ -1,4 +1,4 @@
--- 01's first sentence on rows, which 02's K8 replaced, and the segments of which it says the same.
+-- 01's first sentence on rows, which 02's K8 replaced; and routes of which the edges of every skeleton lie on one line.
 use mathlib.Core.Path.{_≡_}
 use mathlib.Core.Bool.{Bool, true}
 use mathlib.Core.List.{List}
@@ -13,10 +13,11 @@ use Rattle.route_joins.specs.Joins.{segmentAt, segmentCount}
 use Rattle.route.specs.declared.RowRange.{RowRange}
 use Rattle.route.specs.Rows.{noRows, withAll}
 
--- "from the least to the greatest row in the union of its segments' `edges_bounding_box`"
+-- the rows of a segment's box
 abbrev pub boxed : Bool → List ℤ → ℤ → ℕ → Rows
 boxed closed cs w i = boxRows (boundingBox (segmentAt closed cs w i))
 
+-- "from the least to the greatest row in the union of its segments' `edges_bounding_box`"
 unfoldable pub boxRange : Bool → List ℤ → ℤ → RowRange
 boxRange closed cs w = withAll (noRows 0) (listFrom (boxed closed cs w) 0 (segmentCount closed cs))
 

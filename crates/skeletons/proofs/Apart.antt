@@ -14,23 +14,23 @@ use Rattle.shapes.specs.declared.Side.the-variants.{Left, Right}
 use Rattle.parallels.specs.Parallels.{swapped, falls}
 use Rattle.skeletons.specs.Treads.{Tread, Mark, Trod, March, Arrived, treadOf, markOf, dueAt, keptAt, trodBy, trod, stepped, arrivedAt, march, setOut, mostOf, marched}
 
--- what is paid for a parallel, and what a side pays for its way
+-- what is paid for a parallel: how much farther its side stands after it
 abbrev price : ℕ → ℕ → Bool → ℕ
 price a b extra = cond extra b a
 
 module _ (a b : ℕ) where
-  -- the steps along the minor axis are as many as those along the major one ask for, or one fewer or more; an Extra point has one that is due
+  -- no more steps along the minor axis than those along the major one ask for, to the nearest; at an Extra point one more is due
   pub record Fair (n e : ℕ) : Type 0 where
     pub fair : 2 * a * e ≤ 2 * b * n + a
 
   pub record Fairly (m : Mark) : Type 0 where
-    pub even : Fair (m .n) (m .e)
+    pub few : Fair (m .n) (m .e)
     pub late : m .extra ≡ true → 2 * a * m .e + a ≤ 2 * b * m .n
 
   -- a side stands one step beyond its last parallel
   record Follows (m : Mark) (t : Tread) : Type 0 where
     fairly : Fairly m
-    even : Fair (t .n) (t .e)
+    few : Fair (t .n) (t .e)
     beyond : a * t .n + b * t .e ≡ a * m .n + b * m .e + price a b (m .extra)
 
   record Fared (t : Tread) (r : Trod) : Type 0 where
@@ -57,21 +57,21 @@ module _ (a b : ℕ) where
       by : (x y : Bool) → dueAt a b side (t .n) (t .e) ≡ x → Fared t (trodBy a b x y t)
       by false y d =
           record {
-            follows = record { fairly = record { even = h; late = λ x. absurd (false≢true x) }; even = record { fair = omega arith }; beyond = omega arith };
+            follows = record { fairly = record { few = h; late = λ x. absurd (false≢true x) }; few = record { fair = omega arith }; beyond = omega arith };
             farther = omega arith;
             grows = some;
           }
       by true true d =
           let late = due-late side (t .n) (t .e) d in
           record {
-            follows = record { fairly = record { even = h; late = λ _. late }; even = record { fair = omega arith }; beyond = omega arith };
+            follows = record { fairly = record { few = h; late = λ _. late }; few = record { fair = omega arith }; beyond = omega arith };
             farther = omega arith;
             grows = some-short (t .n) (t .e) some late;
           }
       by true false d =
           let late = due-late side (t .n) (t .e) d in
           record {
-            follows = record { fairly = record { even = record { fair = omega arith }; late = λ x. absurd (false≢true x) }; even = record { fair = omega arith }; beyond = omega arith };
+            follows = record { fairly = record { few = record { fair = omega arith }; late = λ x. absurd (false≢true x) }; few = record { fair = omega arith }; beyond = omega arith };
             farther = omega arith;
             grows = some;
           }
@@ -84,7 +84,7 @@ module _ (a b : ℕ) where
     paid : s .sum + a ≤ 2 * (a * s .this .n + b * s .this .e + (a * s .other .n + b * s .other .e)) + b
 
   -- the last parallels of both sides
-  pub record Apart (most : ℕ) (r : Arrived) : Type 0 where
+  pub record PaidFor (most : ℕ) (r : Arrived) : Type 0 where
     pub left-fairly : Fairly (r .left)
     pub right-fairly : Fairly (r .right)
     pub paid : r .sum + a ≤ 2 * (a * r .left .n + b * r .left .e + price a b (r .left .extra) + (a * r .right .n + b * r .right .e + price a b (r .right .extra))) + b
@@ -95,27 +95,27 @@ module _ (a b : ℕ) where
   twice-price true = refl
   twice-price false = refl
 
-  apart-at : (most : ℕ) (side : Side) (s : March) → Paid s → most < s .sum * s .sum → Apart most (arrivedAt side s)
-  apart-at most Left s p h = record { left-fairly = p .this-follows .fairly; right-fairly = p .other-follows .fairly; paid = omega (arith, p .paid, p .this-follows .beyond, p .other-follows .beyond); over = h }
-  apart-at most Right s p h = record { left-fairly = p .other-follows .fairly; right-fairly = p .this-follows .fairly; paid = omega (arith, p .paid, p .this-follows .beyond, p .other-follows .beyond); over = h }
+  paid-at : (most : ℕ) (side : Side) (s : March) → Paid s → most < s .sum * s .sum → PaidFor most (arrivedAt side s)
+  paid-at most Left s p h = record { left-fairly = p .this-follows .fairly; right-fairly = p .other-follows .fairly; paid = omega (arith, p .paid, p .this-follows .beyond, p .other-follows .beyond); over = h }
+  paid-at most Right s p h = record { left-fairly = p .other-follows .fairly; right-fairly = p .this-follows .fairly; paid = omega (arith, p .paid, p .this-follows .beyond, p .other-follows .beyond); over = h }
 
   module _ (some : 1 ≤ a) (flip : Bool) where
     step-paid : (side : Side) {s : March} → Paid s → Paid (stepped a b flip side s) × (s .sum + 1 ≤ stepped a b flip side s .sum)
     unfolding stepped
     step-paid side {s} p =
-        let f = fared side (falls flip side) (s .this) some (p .this-follows .even) in
+        let f = fared side (falls flip side) (s .this) some (p .this-follows .few) in
         let twice = twice-price (trod a b side (falls flip side) (s .this) .mark .extra) in
         (record { this-follows = p .other-follows; other-follows = f .follows; paid = omega (arith, twice, p .paid, f .farther) }, omega (arith, twice, f .grows))
 
     -- with parallels enough left
-    march-apart : (n most : ℕ) (side : Side) (t : Bool) (s : March) → ltb most (s .sum * s .sum) ≡ t → Paid s → most < s .sum + n → Apart most (march n a b flip most side s)
+    march-paid : (n most : ℕ) (side : Side) (t : Bool) (s : March) → ltb most (s .sum * s .sum) ≡ t → Paid s → most < s .sum + n → PaidFor most (march n a b flip most side s)
     unfolding march
-    march-apart zero most side t s e p h = apart-at most side s p (omega (arith, mul-le-mul {n₁ = 1} {m₁ = s .sum} {n₂ = s .sum} {m₂ = s .sum} (omega arith) (le-refl (s .sum))))
-    march-apart (suc n) most side true s e p h = rw e (apart-at most side s p (ltb-true most (s .sum * s .sum) e))
-    march-apart (suc n) most side false s e p h =
+    march-paid zero most side t s e p h = paid-at most side s p (omega (arith, mul-le-mul {n₁ = 1} {m₁ = s .sum} {n₂ = s .sum} {m₂ = s .sum} (omega arith) (le-refl (s .sum))))
+    march-paid (suc n) most side true s e p h = rw e (paid-at most side s p (ltb-true most (s .sum * s .sum) e))
+    march-paid (suc n) most side false s e p h =
         let q = step-paid side p in
         let s₁ = stepped a b flip side s in
-        rw e (march-apart n most (swapped side) (ltb most (s₁ .sum * s₁ .sum)) s₁ refl (q .0) (omega (arith, q .1)))
+        rw e (march-paid n most (swapped side) (ltb most (s₁ .sum * s₁ .sum)) s₁ refl (q .0) (omega (arith, q .1)))
 
 -- ---- the first parallel is the line itself
 
@@ -146,17 +146,20 @@ module _ {a b w : ℕ} (some : 1 ≤ a) (less : b ≤ a) (wide : 1 ≤ w) (flip 
 
   onward-paid : Paid a b (onward a b)
   onward-paid =
-      let follows : Follows a b (markOf 0 0 false) (treadOf 1 0 0) = record { fairly = record { even = record { fair = omega arith }; late = λ x. absurd (false≢true x) }; even = record { fair = omega arith }; beyond = omega arith } in
+      let follows : Follows a b (markOf 0 0 false) (treadOf 1 0 0) = record { fairly = record { few = record { fair = omega arith }; late = λ x. absurd (false≢true x) }; few = record { fair = omega arith }; beyond = omega arith } in
       record { this-follows = follows; other-follows = follows; paid = omega arith }
 
-  pub apart : Apart a b most (marched a b flip w)
-  apart = rw first-marched (march-apart a b some flip (most - (a + b)) most Left (ltb most (onward a b .sum * onward a b .sum)) (onward a b) refl onward-paid (omega arith))
+  pub paid-for : PaidFor a b most (marched a b flip w)
+  paid-for = rw first-marched (march-paid a b some flip (most - (a + b)) most Left (ltb most (onward a b .sum * onward a b .sum)) (onward a b) refl onward-paid (omega arith))
 
 -- ---- from width 3 on
 
--- the way across the line from the one last parallel to the other
+-- the way across the line from the one last parallel to the other, n and e steps out on the one side, and p and f on the other
+abbrev pub gapOf : ℕ → ℕ → ℕ → ℕ → ℕ → ℕ → ℕ
+gapOf a b n e p f = a * n + b * e + (a * p + b * f)
+
 abbrev pub gap : ℕ → ℕ → Arrived → ℕ
-gap a b r = a * r .left .n + b * r .left .e + (a * r .right .n + b * r .right .e)
+gap a b r = gapOf a b (r .left .n) (r .left .e) (r .right .n) (r .right .e)
 
 price-most : {a b : ℕ} → b ≤ a → (x : Bool) → price a b x ≤ a
 price-most {a} less true = less
@@ -171,8 +174,8 @@ module _ {a b w : ℕ} (some : 1 ≤ a) (less : b ≤ a) (wide : 3 ≤ w) (flip 
   abbrev r : Arrived
   r = marched a b flip w
 
-  paid-apart : Apart a b (mostOf a b w) r
-  paid-apart = apart some less (omega arith) flip
+  is-paid : PaidFor a b (mostOf a b w) r
+  is-paid = paid-for some less (omega arith) flip
 
   thirty-six : 36 * (a * a + b * b) ≤ mostOf a b w
   thirty-six = mul-le-mul {n₁ = 36} {m₁ = a * a + b * b} {n₂ = 2 * w * (2 * w)} {m₂ = a * a + b * b} (omega (arith, mul-le-mul {n₁ = 6} {m₁ = 6} {n₂ = 2 * w} {m₂ = 2 * w} (omega arith) (omega arith))) (le-refl (a * a + b * b))
@@ -182,8 +185,8 @@ module _ {a b w : ℕ} (some : 1 ≤ a) (less : b ≤ a) (wide : 3 ≤ w) (flip 
   gap-wide =
       ⊎-elim
       (λ near.
-      let short : r .sum ≤ 5 * a + 3 * b = omega (arith, paid-apart .paid, price-most less (r .left .extra), price-most less (r .right .extra)) in
-      absurd (omega (arith, paid-apart .over, thirty-six, two-squares (3 * a) (5 * b), mul-le-mul {n₁ = r .sum} {m₁ = r .sum} short short)))
+      let short : r .sum ≤ 5 * a + 3 * b = omega (arith, is-paid .paid, price-most less (r .left .extra), price-most less (r .right .extra)) in
+      absurd (omega (arith, is-paid .over, thirty-six, two-squares (3 * a) (5 * b), mul-le-mul {n₁ = r .sum} {m₁ = r .sum} short short)))
       (λ far. far)
       (le-or-lt (gap a b r) (a + b))
 
@@ -192,8 +195,8 @@ module _ {a b w : ℕ} (some : 1 ≤ a) (less : b ≤ a) (wide : 3 ≤ w) (flip 
   two-steps =
       ⊎-elim (λ high. high)
       (λ low.
-      let left : r .left .e ≤ r .left .n = fair-few some less (paid-apart .left-fairly .even) (omega arith) in
-      let right : r .right .e ≤ r .right .n = fair-few some less (paid-apart .right-fairly .even) (omega arith) in
+      let left : r .left .e ≤ r .left .n = fair-few some less (is-paid .left-fairly .few) (omega arith) in
+      let right : r .right .e ≤ r .right .n = fair-few some less (is-paid .right-fairly .few) (omega arith) in
       let sum : r .left .n + r .right .n ≤ 1 = omega arith in
       absurd (omega (arith, gap-wide, mul-le-mul-left b left, mul-le-mul-left b right, mul-le-mul-left a sum, mul-le-mul-left b sum)))
       (le-or-lt 2 (r .left .n + r .right .n))

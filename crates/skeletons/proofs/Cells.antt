@@ -1,6 +1,8 @@
--- A line comes to the square of side 1 round each point at which it is drawn to cross another, and round its own end. Assumes nothing.
+-- Two lines come to the square of side 1 round the point at which they are drawn to cross; a line and one that begins at its end are drawn to cross there.
+-- Assumes nothing.
 use mathlib.Core.Path.{_≡_, refl, sym, ap}
-use mathlib.Core.Logic.{_≢_}
+use mathlib.Core.Logic.{_≢_, _⊎_, inl, inr}
+use mathlib.Core.Bool.{Bool, true, false}
 use Prim.Native.Nat.{ℕ, _+_, _*_, _≤_}
 use native.Mathlib.Nat.{mul-le-mul-left, le-of-mul-le-mul-left}
 use native.Mathlib.Omega.{arith}
@@ -15,18 +17,21 @@ use Rattle.shapes.specs.declared.Side.{Side}
 use Rattle.shapes.specs.Shape.{lineOf, minus, determinant, delta}
 use Rattle.shapes.proofs.Laws.{point-is}
 use Rattle.intersection_params.specs.declared.Solution.{Solution}
-use Rattle.intersection_params.specs.Crossing.{solutionOf}
+use Rattle.intersection_params.specs.declared.Intersection.the-variants.{At}
+use Rattle.intersection_params.specs.Crossing.{solutionOf, nearlyColinear}
 use Rattle.intersection_params.specs.Words.{OnLine, TrueCrossing, IsDrawn}
 use Rattle.intersection_params.proofs.Laws.{solution-true}
+use Rattle.line_join.specs.Join.{meet}
+use Rattle.line_join.proofs.Meeting.{meet-drawn, meet-ended}
 
 -- the line comes to the square round the point, its border included
-pub record Meets (l : Line) (p : Point) : Type 0 where
+pub record Touches (l : Line) (p : Point) : Type 0 where
   pub near : 2 * natAbs (determinant (delta l) (minus p (l .start))) ≤ natAbs (delta l .x) + natAbs (delta l .y)
 
 -- one that a crossing lies on does, round the point nearest to that
-meets-nearest : (l : Line) (t : Solution) (p : Point) → t .determinant ≢ pos 0 → OnLine l t → Nearest (t .x) (t .determinant) (p .x) → Nearest (t .y) (t .determinant) (p .y) → Meets l p
+touches-nearest : (l : Line) (t : Solution) (p : Point) → t .determinant ≢ pos 0 → OnLine l t → Nearest (t .x) (t .determinant) (p .x) → Nearest (t .y) (t .determinant) (p .y) → Touches l p
 unfolding determinant minus delta
-meets-nearest l t p some on x y =
+touches-nearest l t p some on x y =
     let u = l .end .x -ℤ l .start .x in
     let v = l .end .y -ℤ l .start .y in
     let d = t .determinant in
@@ -42,11 +47,11 @@ meets-nearest l t p some on x y =
     }
 
 module _ {first second : Line} {p : Point} {s : Side} (h : IsDrawn first second p s) where
-  pub first-meets : Meets first p
-  first-meets = let t = solution-true first second (h .crosses) in meets-nearest first (solutionOf first second) p (t .some) (t .on-first) (h .nearest-x _ t) (h .nearest-y _ t)
+  pub first-touches : Touches first p
+  first-touches = let t = solution-true first second (h .crosses) in touches-nearest first (solutionOf first second) p (t .some) (t .on-first) (h .nearest-x _ t) (h .nearest-y _ t)
 
-  pub second-meets : Meets second p
-  second-meets = let t = solution-true first second (h .crosses) in meets-nearest second (solutionOf first second) p (t .some) (t .on-second) (h .nearest-x _ t) (h .nearest-y _ t)
+  pub second-touches : Touches second p
+  second-touches = let t = solution-true first second (h .crosses) in touches-nearest second (solutionOf first second) p (t .some) (t .on-second) (h .nearest-x _ t) (h .nearest-y _ t)
 
 -- ---- a line and one that begins at its end are drawn to cross there
 
@@ -66,3 +71,13 @@ module _ (a b c : Point) where
 
   pub drawn-end : {p : Point} {s : Side} → IsDrawn (lineOf b c) (lineOf a b) p s → p ≡ b
   drawn-end d = point-is (nearest-whole (d .nearest-x solved end-crosses)) (nearest-whole (d .nearest-y solved end-crosses))
+
+-- ---- where two edges meet: at the end of the second, or where they are drawn to cross
+
+module _ (j l : Line) {p : Point} {s : Side} where
+  met-by : (t : Bool) → nearlyColinear j l ≡ t → meet j l ≡ At p s → (p ≡ l .end) ⊎ IsDrawn j l p s
+  met-by true e m = inl (meet-ended j l p s e .0 m .at-end)
+  met-by false e m = inr (meet-drawn j l p s e .0 m)
+
+  pub met-at : meet j l ≡ At p s → (p ≡ l .end) ⊎ IsDrawn j l p s
+  met-at = met-by (nearlyColinear j l) refl

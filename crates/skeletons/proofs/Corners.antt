@@ -1,6 +1,7 @@
 -- The corners of a bend's join are apart where ends and crossings of the edges are. Assumes nothing.
 use mathlib.Core.Path.{_≡_, refl}
-use mathlib.Core.Bool.{Bool, true, false}
+use mathlib.Core.Logic.{⊎-elim}
+use mathlib.Core.Bool.{true}
 use Prim.Native.Nat.{ℕ, _≤_}
 use lib.IntN.{pos}
 use Rattle.whole.proofs.Ring.{con, neg, _⊖_, _⊗_, _≈_, since, ring}
@@ -10,21 +11,17 @@ use Rattle.shapes.specs.declared.Line.{Line}
 use Rattle.shapes.specs.declared.Side.{Side}
 use Rattle.shapes.specs.declared.Side.the-variants.{Left, Right}
 use Rattle.shapes.specs.declared.Offset.the-variants.{None}
-use Rattle.shapes.specs.Limits.{lineLimit, thickLimit}
-use Rattle.shapes.specs.Shape.{lineOf, LineNear, determinant, delta}
+use Rattle.shapes.specs.Shape.{lineOf, determinant, delta}
 use Rattle.intersection_params.specs.declared.Intersection.{Intersection}
 use Rattle.intersection_params.specs.declared.Intersection.the-variants.{At, Colinear, Refused}
-use Rattle.intersection_params.specs.Crossing.{nearlyColinear}
 use Rattle.intersection_params.specs.Words.{bend, IsDrawn}
 use Rattle.extents.specs.declared.Edges.{Edges}
 use Rattle.extents.specs.Edges.{extentsOf}
 use Rattle.line_join.specs.declared.Join.{Join}
 use Rattle.line_join.specs.Miter.{reaches}
 use Rattle.line_join.specs.Join.{meet, cornersOf, outer, cut, overlapping, bentAt, bentLeft, bentOf, joinOf}
-use Rattle.line_join.proofs.Meeting.{meet-drawn, meet-ended}
-use Rattle.skeletons.proofs.Cells.{Meets, first-meets, second-meets}
-use Rattle.skeletons.proofs.Marches.{still}
-use Rattle.skeletons.proofs.Strokes.{edge, Solid, solid}
+use Rattle.skeletons.proofs.Cells.{Touches, first-touches, second-touches, met-at}
+use Rattle.skeletons.proofs.Strokes.{Fits, edge, Solid, solid}
 
 -- directions that cross are not (0,0)
 bend-first : (j l : Line) → (delta j .x ≡ pos 0) × (delta j .y ≡ pos 0) → bend j l ≡ pos 0
@@ -35,35 +32,24 @@ bend-second : (j l : Line) → (delta l .x ≡ pos 0) × (delta l .y ≡ pos 0) 
 unfolding determinant
 bend-second j l h = ring 4 (λ x y u v. since (neg y) u (con (pos 0)) (since x v (con (pos 0)) (x ⊗ v ⊖ y ⊗ u ≈ con (pos 0)))) refl (delta j .x) (delta j .y) (delta l .x) (delta l .y) (h .0) (h .1)
 
--- the edges of the line before end in two corners, so that no skeleton begins at the join
+-- left and right of `first_edge_end` are two points, so that no skeleton begins at the join
 abbrev pub Apart : Join → Type 0
 Apart j = j .ending .left ≡ j .ending .right → ⊥
 
-module _ (p q r : Point) (w : ℕ) (first-near : LineNear lineLimit (lineOf p q)) (second-near : LineNear lineLimit (lineOf q r)) (small : w ≤ thickLimit) where
+module _ (p q r : Point) (w : ℕ) where
   abbrev first : Side → Line
-  first side = edge (lineOf p q) w first-near small side
+  first side = edge (lineOf p q) w side
 
   abbrev second : Side → Line
-  second side = edge (lineOf q r) w second-near small side
+  second side = edge (lineOf q r) w side
 
   -- a corner of the bend: the end of an edge, or a crossing
   pub data Corner (side : Side) (z : Point) : Type 0 where
     ended : z ≡ first side .end → Corner side z
     drawn : {s : Side} → IsDrawn (second side) (first side) z s → Corner side z
 
-  corner-by : (side s : Side) {z : Point} (t : Bool) → nearlyColinear (second side) (first side) ≡ t → meet (second side) (first side) ≡ At z s → Corner side z
-  corner-by side s {z} true e m = ended (meet-ended (second side) (first side) z s e .0 m .at-end)
-  corner-by side s {z} false e m = drawn (meet-drawn (second side) (first side) z s e .0 m)
-
   corner : (side s : Side) {z : Point} → meet (second side) (first side) ≡ At z s → Corner side z
-  corner side s m = corner-by side s (nearlyColinear (second side) (first side)) refl m
-
-  module _ (wide : 1 ≤ w) {z : Point} {s : Side} (side : Side) (d : IsDrawn (second side) (first side) z s) where
-    pub before : Meets (first side) z × Solid (lineOf p q) w first-near small side
-    before = (second-meets d, solid (lineOf p q) w first-near small wide side (λ still. d .crosses (bend-second (second side) (first side) still)))
-
-    pub after : Meets (second side) z × Solid (lineOf q r) w second-near small side
-    after = (first-meets d, solid (lineOf q r) w second-near small wide side (λ still. d .crosses (bend-first (second side) (first side) still)))
+  corner side s m = ⊎-elim (λ e. ended e) (λ d. drawn d) (met-at (second side) (first side) m)
 
   abbrev F : Edges
   F = extentsOf (lineOf p q) (pos w) None
@@ -97,3 +83,11 @@ module _ (p q r : Point) (w : ℕ) (first-near : LineNear lineLimit (lineOf p q)
     pub join-apart : Apart (joinOf p q r (pos w) None)
     unfolding joinOf bentOf
     join-apart = bent-apart (meet (S .left) (F .left)) (meet (S .right) (F .right)) refl refl
+
+-- edges that cross come to the square round the corner, and have a length
+module _ {p q r : Point} {w : ℕ} (first-fits : Fits (lineOf p q) w) (second-fits : Fits (lineOf q r) w) (wide : 1 ≤ w) {z : Point} {s : Side} (side : Side) (d : IsDrawn (second p q r w side) (first p q r w side) z s) where
+  pub before : Touches (edge (lineOf p q) w side) z × Solid (lineOf p q) w side
+  before = (second-touches d, solid first-fits wide side (λ still. d .crosses (bend-second (second p q r w side) (first p q r w side) still)))
+
+  pub after : Touches (edge (lineOf q r) w side) z × Solid (lineOf q r) w side
+  after = (first-touches d, solid second-fits wide side (λ still. d .crosses (bend-first (second p q r w side) (first p q r w side) still)))

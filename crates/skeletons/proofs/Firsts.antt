@@ -17,11 +17,18 @@ unfolding march
 march-done zero a b flip most side s e = refl
 march-done (suc n) a b flip most side s e = rw e
 
+-- the right one is the line itself; the left one starts a step beside it, and is Extra only where the line is steep enough
+pub record Beside (a b : ℕ) (r : Arrived) : Type 0 where
+  pub one : r .left .n ≡ 1
+  pub none : r .left .e ≡ 0
+  pub steep : r .left .extra ≡ true → a < 2 * b
+  pub right-is : r .right ≡ markOf 0 0 false
+
 module _ {a b : ℕ} (some : 1 ≤ a) (less : b ≤ a) (flip : Bool) where
+  -- the line itself, and one parallel more: then the accumulator is over, whether that was Normal or Extra
   short-of-two : (a + b + 2 * a) * (a + b + 2 * a) ≤ mostOf a b 2
   short-of-two = omega (arith, two-squares a b)
 
-  -- a left parallel that is Extra where one is due
   flat-over : 2 * b ≤ a → mostOf a b 2 < (a + b + 2 * a + 2 * a) * (a + b + 2 * a + 2 * a)
   flat-over flat = omega (arith, mul-le-mul {n₁ = 2 * b} {m₁ = 2 * b} {n₂ = a} {m₂ = a} flat flat, mul-le-mul {n₁ = 1} {m₁ = 1} {n₂ = a} {m₂ = a} some some)
 
@@ -31,13 +38,6 @@ module _ {a b : ℕ} (some : 1 ≤ a) (less : b ≤ a) (flip : Bool) where
       by : (u v : ℕ) → 1 ≤ u → a ≡ 2 * v + u → b ≡ v + u → mostOf a b 2 < (a + b + 2 * a + 2 * b) * (a + b + 2 * a + 2 * b)
       by u v one larger smaller = rw (larger, smaller) (omega (arith, mul-le-mul {n₁ = 1} {m₁ = 1} {n₂ = u} {m₂ = u} one one))
 
-  -- the right one is the line itself; the left one starts a step beside it, and is Extra only where the line is steep enough
-  pub record Beside (r : Arrived) : Type 0 where
-    pub one : r .left .n ≡ 1
-    pub none : r .left .e ≡ 0
-    pub steep : r .left .extra ≡ true → a < 2 * b
-    pub right-is : r .right ≡ markOf 0 0 false
-
   -- after the first left parallel
   abbrev flatly : March
   flatly = record { this = treadOf 1 0 0; other = treadOf 2 0 0; here = markOf 0 0 false; there = markOf 1 0 false; sum = a + b + 2 * a + 2 * a }
@@ -45,7 +45,7 @@ module _ {a b : ℕ} (some : 1 ≤ a) (less : b ≤ a) (flip : Bool) where
   abbrev steeply : March
   steeply = record { this = treadOf 1 0 0; other = treadOf 1 1 1; here = markOf 0 0 false; there = markOf 1 0 true; sum = a + b + 2 * a + 2 * b }
 
-  second-by : (n : ℕ) (x : Bool) → ltb (2 * a * 0 + a) (2 * b * 1) ≡ x → Beside (march n a b flip (mostOf a b 2) Right (stepped a b flip Left (onward a b)))
+  second-by : (n : ℕ) (x : Bool) → ltb (2 * a * 0 + a) (2 * b * 1) ≡ x → Beside a b (march n a b flip (mostOf a b 2) Right (stepped a b flip Left (onward a b)))
   unfolding stepped trod trodBy
   second-by n false e =
       let over = lt-ltb (mostOf a b 2) ((a + b + 2 * a + 2 * a) * (a + b + 2 * a + 2 * a)) (flat-over (omega (arith, ltb-false (2 * a * 0 + a) (2 * b * 1) e))) in
@@ -61,7 +61,7 @@ module _ {a b : ℕ} (some : 1 ≤ a) (less : b ≤ a) (flip : Bool) where
       kept true h = le-leb (2 * a * 0 + a) (2 * b * (0 + 1)) (omega arith)
       kept false h = lt-ltb (2 * a * 0 + a) (2 * b * (0 + 1)) (omega arith)
 
-  pub beside-two : Beside (marched a b flip 2)
+  pub beside-two : Beside a b (marched a b flip 2)
   unfolding march
   beside-two =
       let n = mostOf a b 2 - (a + b) - 1 in

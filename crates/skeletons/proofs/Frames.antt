@@ -53,10 +53,10 @@ none-and m z = ring 2 (λ m k. m ⊗ con (pos 0) ⊕ k ≈ k) refl (pos m) (pos 
 and-none : (m : ℕ) (z : ℤ) → pos (natAbs z) *ℤ directionOf z +ℤ pos m *ℤ pos 0 ≡ z
 and-none m z = ring 2 (λ m k. k ⊕ m ⊗ con (pos 0) ≈ k) refl (pos m) (pos (natAbs z) *ℤ directionOf z) ∙ directed z
 
-pub record Spanned (c : Point) (p : Parameters) (a b : ℕ) : Type 0 where
-  pub x-is : pos a *ℤ p .major .x +ℤ pos b *ℤ p .minor .x ≡ c .x
-  pub y-is : pos a *ℤ p .major .y +ℤ pos b *ℤ p .minor .y ≡ c .y
-  pub both : plus (p .major) (p .minor) ≡ pointOf (directionOf (c .x)) (directionOf (c .y))
+record Spanned (c : Point) (p : Parameters) (a b : ℕ) : Type 0 where
+  x-is : pos a *ℤ p .major .x +ℤ pos b *ℤ p .minor .x ≡ c .x
+  y-is : pos a *ℤ p .major .y +ℤ pos b *ℤ p .minor .y ≡ c .y
+  both : plus (p .major) (p .minor) ≡ pointOf (directionOf (c .x)) (directionOf (c .y))
 
 spanned-by : (c : Point) (t : Bool) → let m = natAbs (c .x) in let n = natAbs (c .y) in
     Spanned c (Walk.along (cond t (down c) (across c)) (cond t (across c) (down c)) (pos (cond t n m)) (pos (cond t m n))) (cond t n m) (cond t m n)
@@ -64,7 +64,7 @@ unfolding Walk.along plus
 spanned-by c true = record { x-is = none-and (natAbs (c .y)) (c .x); y-is = and-none (natAbs (c .x)) (c .y); both = simp (+ℤ-idl, +ℤ-idr) }
 spanned-by c false = record { x-is = and-none (natAbs (c .y)) (c .x); y-is = none-and (natAbs (c .x)) (c .y); both = simp (+ℤ-idl, +ℤ-idr) }
 
-pub spanned : (c : Point) → Spanned c (parametersAlong c) (longer c) (shorter c)
+spanned : (c : Point) → Spanned c (parametersAlong c) (longer c) (shorter c)
 spanned c = rw (parameters-are c) (spanned-by c (isSteep c))
 
 -- ---- determinants with a delta, and with one that is a step shorter along both axes
@@ -180,9 +180,9 @@ product d s v = product-along (turnedBack d) s v
 -- a delta along a diagonal is so many times the step that an Extra edge is shorter
 pub diagonal : (d : Point) → longer d ≡ shorter d → (d .x ≡ pos (longer d) *ℤ reduce d .x) × (d .y ≡ pos (longer d) *ℤ reduce d .y)
 unfolding plus
-diagonal d even =
+diagonal d equal =
     let s = spanned d in
     let p = parametersAlong d in (
-      ring 5 (λ x a b m n. since (con (negsuc 0)) (a ⊗ m ⊕ b ⊗ n) x (since (con (negsuc 0)) (a ⊗ n) (b ⊗ n) (x ≈ a ⊗ (m ⊕ n)))) refl (d .x) (pos (longer d)) (pos (shorter d)) (p .major .x) (p .minor .x) (s .x-is) (ap (λ k. pos k *ℤ p .minor .x) even),
-      ring 5 (λ x a b m n. since (con (negsuc 0)) (a ⊗ m ⊕ b ⊗ n) x (since (con (negsuc 0)) (a ⊗ n) (b ⊗ n) (x ≈ a ⊗ (m ⊕ n)))) refl (d .y) (pos (longer d)) (pos (shorter d)) (p .major .y) (p .minor .y) (s .y-is) (ap (λ k. pos k *ℤ p .minor .y) even),
+      ring 5 (λ x a b m n. since (con (negsuc 0)) (a ⊗ m ⊕ b ⊗ n) x (since (con (negsuc 0)) (a ⊗ n) (b ⊗ n) (x ≈ a ⊗ (m ⊕ n)))) refl (d .x) (pos (longer d)) (pos (shorter d)) (p .major .x) (p .minor .x) (s .x-is) (ap (λ k. pos k *ℤ p .minor .x) equal),
+      ring 5 (λ x a b m n. since (con (negsuc 0)) (a ⊗ m ⊕ b ⊗ n) x (since (con (negsuc 0)) (a ⊗ n) (b ⊗ n) (x ≈ a ⊗ (m ⊕ n)))) refl (d .y) (pos (longer d)) (pos (shorter d)) (p .major .y) (p .minor .y) (s .y-is) (ap (λ k. pos k *ℤ p .minor .y) equal),
     )

@@ -14,13 +14,12 @@ use Rattle.whole.proofs.Tests.{either}
 use Rattle.shapes.specs.declared.Point.{Point}
 use Rattle.shapes.specs.declared.Offset.{Offset}
 use Rattle.shapes.specs.Shape.{pointOf, dotProduct, squaredLength}
-use Rattle.bresenham.specs.declared.Parameters.{Parameters}
 use Rattle.bresenham.specs.Walk.{directionOf, parametersAlong}
 use Rattle.bresenham.specs.Walk as Walk
 use Rattle.bresenham.proofs.Laws.{across, down, isSteep, longer, shorter, parameters-are}
 use Rattle.parallels.specs.Parallels.{turnedBack, thickness, planAlong}
 use Rattle.skeletons.specs.Treads.{mostOf}
-use Rattle.skeletons.proofs.Strides.{Gauged, Measured}
+use Rattle.skeletons.proofs.Strides.{Gauged, Unit, Measured}
 
 -- ---- directions are 1 or -1
 
@@ -34,12 +33,7 @@ gauged : (c : Point) → Gauged (parametersAlong c) (longer c) (shorter c)
 unfolding Walk.along
 gauged c = rw (parameters-are c) (record { far = refl; gains = refl; loses = refl })
 
--- steps of one pixel along the axes
-pub record Unit (p : Parameters) : Type 0 where
-  pub major-unit : dotProduct (p .major) (p .major) ≡ pos 1
-  pub crossed : dotProduct (p .major) (p .minor) ≡ pos 0
-  pub crossed-back : dotProduct (p .minor) (p .major) ≡ pos 0
-  pub minor-unit : dotProduct (p .minor) (p .minor) ≡ pos 1
+-- ---- steps of one pixel along the axes
 
 along-x : (u : ℤ) → u *ℤ u ≡ pos 1 → dotProduct (pointOf u (pos 0)) (pointOf u (pos 0)) ≡ pos 1
 unfolding dotProduct
@@ -68,7 +62,7 @@ unit-by c false a b =
     let v = directionOf (c .y) in
     record { major-unit = along-x u (direction-square (c .x)); crossed = x-to-y u v; crossed-back = y-to-x u v; minor-unit = along-y v (direction-square (c .y)) }
 
-pub unit : (c : Point) → Unit (parametersAlong c)
+unit : (c : Point) → Unit (parametersAlong c)
 unit c = rw (parameters-are c) (unit-by c (isSteep c) (pos (longer c)) (pos (shorter c)))
 
 -- ---- the deltas of a line turned by a quarter are the same
@@ -86,16 +80,7 @@ back d = rw (abs-neg (d .x)) (back-by (natAbs (d .x)) (natAbs (d .y)) (isSteep d
 
 pub measured : (d : Point) (width : ℤ) (offset : Offset) → Measured (planAlong d width offset) (longer d) (shorter d)
 unfolding planAlong
-measured d width offset =
-    let u = unit (turnedBack d) in
-    record {
-      across-is = rw (back d .0, back d .1) at (gauged (turnedBack d));
-      along-is = gauged d;
-      major-unit = u .major-unit;
-      crossed = u .crossed;
-      crossed-back = u .crossed-back;
-      minor-unit = u .minor-unit;
-    }
+measured d width offset = record { across-is = rw (back d .0, back d .1) at (gauged (turnedBack d)); along-is = gauged d; steps = unit (turnedBack d) }
 
 squares-by : (t : Bool) (m n : ℕ) → m * m + n * n ≡ cond t n m * cond t n m + cond t m n * cond t m n
 squares-by true m n = omega arith

@@ -165,15 +165,22 @@ skipped-is : (a b : ℕ) (falling : Bool) → trod a b Left falling (treadOf 0 0
 unfolding trod trodBy
 skipped-is a b falling = let test : ltb (2 * a * 0 + a) (2 * b * 0) ≡ false = le-ltb (2 * a * 0 + a) (2 * b * 0) (omega arith) in rw test
 
+-- the deltas of a line, in the order of their size
+abbrev pub larger : Line → ℕ
+larger l = longer (aimed l)
+
+abbrev pub smaller : Line → ℕ
+smaller l = shorter (aimed l)
+
 module _ (l : Line) (w : ℕ) (near : LineNear lineLimit l) (small : w ≤ thickLimit) where
-  abbrev pub plan : Plan
+  abbrev plan : Plan
   plan = planOf l (pos w) None
 
-  abbrev pub a : ℕ
-  a = longer (aimed l)
+  abbrev a : ℕ
+  a = larger l
 
-  abbrev pub b : ℕ
-  b = shorter (aimed l)
+  abbrev b : ℕ
+  b = smaller l
 
   sound : Sound thickLimit plan
   sound = sound-plan l (pos w) None near small

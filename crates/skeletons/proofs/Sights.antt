@@ -21,7 +21,7 @@ use Rattle.parallels.specs.Parallels.{aimed, planAlong, planOf}
 use Rattle.extents.specs.declared.Edge.{Edge}
 use Rattle.extents.specs.Edges.{closed}
 use Rattle.skeletons.specs.Treads.{Mark}
-use Rattle.skeletons.proofs.Cells.{Meets}
+use Rattle.skeletons.proofs.Cells.{Touches}
 use Rattle.skeletons.proofs.Frames.{major, minor, reduce, across-delta, across-reduce, across-cut, size-is, cut-size}
 use Rattle.skeletons.proofs.Marches.{Marked}
 use Rattle.skeletons.proofs.Strides.{outward}
@@ -35,7 +35,7 @@ pub record Extra (a b : ℕ) (x y : ℤ) : Type 0 where
 
 -- ---- a line of a delta, or of one that is shorter, seen from its start and from its end
 
-module _ (d : Point) {l : Line} {z : Point} (m : Meets l z) where
+module _ (d : Point) {l : Line} {z : Point} (m : Touches l z) where
   abbrev a : ℕ
   a = longer d
 
@@ -175,7 +175,7 @@ module _ (l : Line) (w : ℕ) (aim : delta l ≡ aimed l) (side : Side) {e : Edg
   abbrev way : Point → Point → ℤ
   way c o = outward side (dotProduct c (minus z o))
 
-  pub sighted-start : Meets edge z → Sighted (longer d) (shorter d) (way (major d) (l .start)) (way (minor d) (l .start)) (pos 0) m
+  pub sighted-start : Touches edge z → Sighted (longer d) (shorter d) (way (major d) (l .start)) (way (minor d) (l .start)) (pos 0) m
   unfolding closed planOf planAlong
   sighted-start h = by (m .extra) refl
     where
@@ -196,7 +196,7 @@ module _ (l : Line) (w : ℕ) (aim : delta l ≡ aimed l) (side : Side) {e : Edg
   abbrev nearer : ℤ
   nearer = outward side (dotProduct (major d) (reduce d))
 
-  pub sighted-end : Meets edge z → Sighted (longer d) (shorter d) (way (major d) (l .end)) (way (minor d) (l .end)) nearer m
+  pub sighted-end : Touches edge z → Sighted (longer d) (shorter d) (way (major d) (l .end)) (way (minor d) (l .end)) nearer m
   unfolding planOf planAlong
   sighted-end h = by (m .extra) refl
     where

@@ -1,29 +1,29 @@
--- The edges of a leg of which one is Extra do not come to one square within a miter's reach of where the leg starts. Assumes nothing.
+-- From width 3 to 64 the edges of a leg do not come to one square within a miter's reach of where it starts, but for the leg of 2 and 1 at width 6. Assumes nothing.
 use mathlib.Core.Path.{_≡_, refl, ap}
 use mathlib.Core.Logic.{_⊎_, inl, inr, ⊎-elim}
 use mathlib.Core.Bool.{Bool, true, false}
-use Prim.Native.Nat.{ℕ, zero, _+_, _-_, _*_, _/_, _≤_, _<_}
+use Prim.Native.Nat.{ℕ, _+_, _-_, _*_, _/_, _≤_, _<_}
 use native.Mathlib.Nat.{mul-le-mul, mul-le-mul-left}
 use native.Mathlib.Omega.{arith}
 use borrow.Author.Tests.{ltb-true, eqb-true}
 use lib.Dec.{ltb, eqb}
 use lib.IntN.{ℤ, pos, natAbs, negℤ, _+ℤ_, _-ℤ_, _*ℤ_, negℤ-negℤ}
 use Rattle.whole.proofs.Bounds.{abs-neg, abs-add, abs-mul}
-use Rattle.whole.proofs.Linear.{linear, sum, diff, abs-parts, le-or-lt}
+use Rattle.whole.proofs.Linear.{linear, diff, abs-parts, le-or-lt}
 use Rattle.whole.proofs.Ring.{con, _⊕_, _⊖_, _⊗_, _≈_, ring}
 use Rattle.whole.proofs.Steps.{square-le}
 use Rattle.whole.proofs.Tests.{and-left, and-right}
-use Rattle.skeletons.specs.Treads.{Mark, Arrived, mostOf, marched}
-use Rattle.skeletons.proofs.Apart.{Apart, gap, apart, gap-wide, two-steps}
+use Rattle.skeletons.specs.Treads.{Arrived, mostOf, marched}
+use Rattle.skeletons.proofs.Apart.{PaidFor, gapOf, gap, paid-for, gap-wide, two-steps}
 use Rattle.skeletons.proofs.Distances.{Wide, Close, never-long, never-wide, wide-of, late-of, extra-wide}
 use Rattle.skeletons.proofs.Sights.{Normal, Extra, Sighted, normal, extra}
-use Rattle.skeletons.proofs.Small.{byGap, byAxis, keeps, keptBy, isOdd, few-keep, many-keep}
-use Rattle.skeletons.proofs.Together.{gapOf, both-normal, both-extra, one-extra, along-axis}
+use Rattle.skeletons.proofs.Small.{Test, passes, byGap, byAxis, keeps, isExcepted, few-keep, many-keep}
+use Rattle.skeletons.proofs.Together.{both-normal, both-extra, one-extra, along-axis}
 
 -- a Normal edge n and e steps out on the one side, and an Extra one p and f on the other
 module _ (b c w n e p f : ℕ) (x y : ℤ) where
   abbrev g : ℕ
-  g = gapOf (b + c + 1) (b + 1) n e p f x y
+  g = gapOf (b + c + 1) (b + 1) n e p f
 
   -- seen from an end of the leg, at which the Extra one is s nearer along the major axis
   pub closes : (s : ℤ) → natAbs y ≤ 2 * w → Normal (b + c + 1) (b + 1) (x -ℤ pos n) (y -ℤ pos e) → Extra (b + c + 1) (b + 1) (negℤ x -ℤ pos p +ℤ s) (negℤ y -ℤ pos f -ℤ s)
@@ -38,10 +38,10 @@ module _ (b c w n e p f : ℕ) (x y : ℤ) where
     close-start : Close b c w 0 g f
     close-start = omega (arith, closes (pos 0) (square-le (natAbs y) (2 * w) (omega arith)) h k)
 
-    gap-no : byGap b c w n e p f ≡ true → ⊥
+    gap-no : byGap b c w 0 n e p f ≡ true → ⊥
     gap-no t = omega (arith, close-start, ltb-true)
 
-    axis-no : byAxis b c w n e p ≡ true → ⊥
+    axis-no : byAxis b c w n e p f ≡ true → ⊥
     axis-no t =
         let far = (c + 1) * (n + p) + e - (c + 2) / 2 in
         let beyond : 2 * w * (2 * w) < p * p + far * far = ltb-true (2 * w * (2 * w)) (p * p + far * far) (and-right (eqb b 0) (ltb (2 * w * (2 * w)) (p * p + far * far)) t) in
@@ -57,14 +57,14 @@ module _ (b c w n e p f : ℕ) (x y : ℤ) where
         omega (arith, mul-le-mul {n₁ = p} {m₁ = p} x-far x-far, mul-le-mul {n₁ = far} {m₁ = far} y-far y-far)
 
     keeps-no : keeps b c w n e p f ≡ true → ⊥
-    keeps-no t = by (byGap b c w n e p f) refl
+    keeps-no t = by (byGap b c w 0 n e p f) refl
       where
-        by : (u : Bool) → byGap b c w n e p f ≡ u → ⊥
+        by : (u : Bool) → byGap b c w 0 n e p f ≡ u → ⊥
         by true e = gap-no e
         by false e = axis-no (rw e at t)
 
     -- so they keep apart: a gap as wide as the width asks for is too wide, and short legs are computed
-    start-no : 3 ≤ w → 4 * c * f ≤ g → Wide b c w 0 g → (b + c < 8 → w ≤ 10 → keeps b c w n e p f ≡ true) → (b ≡ 0 → c ≡ 1 → 11 ≤ w → keeps b c w n e p f ≡ true) → ⊥
+    start-no : 3 ≤ w → 4 * c * f ≤ g → Wide b c w g → (b + c < 8 → w ≤ 10 → keeps b c w n e p f ≡ true) → (b ≡ 0 → c ≡ 1 → 11 ≤ w → keeps b c w n e p f ≡ true) → ⊥
     start-no three late wide few many =
         ⊎-elim
         (λ long. let is : w ≡ 3 + (w - 3) = omega arith in never-long b c (w - 3) g f long late (rw is at wide) (rw is at close-start))
@@ -78,57 +78,69 @@ module _ (b c w n e p f : ℕ) (x y : ℤ) where
 
 -- ---- both edges of a leg
 
-module _ (b c w : ℕ) (flip : Bool) (three : 3 ≤ w) where
-  abbrev pub legs : Arrived
-  legs = marched (b + c + 1) (b + 1) flip w
+module _ (b c w : ℕ) (flip : Bool) where
+  abbrev last : Arrived
+  last = marched (b + c + 1) (b + 1) flip w
 
-  pub pays : Apart (b + c + 1) (b + 1) (mostOf (b + c + 1) (b + 1) w) legs
-  pays = apart (omega arith) (omega arith) (omega arith) flip
+  -- what is known of a Normal edge n and e steps out on the one side, and an Extra one p and f on the other
+  pub record OneExtra (n e p f : ℕ) : Type 0 where
+    pub late : 4 * c * f ≤ gapOf (b + c + 1) (b + 1) n e p f
+    pub wide : Wide b c w (gapOf (b + c + 1) (b + 1) n e p f)
+    pub passed : (test : Test) → passes test last ≡ true → test n e p f ≡ true
 
-  gap-more : b + c + 1 + (b + 1) < gap (b + c + 1) (b + 1) legs
-  gap-more = gap-wide (omega arith) (omega arith) three flip
+  -- such two do not come to the square x and y steps away, whichever is on the left
+  abbrev pub Parted : ℤ → ℤ → ℤ → Type 0
+  Parted x y s = (n e p f : ℕ) (u v t : ℤ) → OneExtra n e p f → natAbs u ≡ natAbs x → natAbs v ≡ natAbs y → natAbs t ≡ natAbs s
+      → Normal (b + c + 1) (b + 1) (u -ℤ pos n) (v -ℤ pos e) → Extra (b + c + 1) (b + 1) (negℤ u -ℤ pos p +ℤ t) (negℤ v -ℤ pos f -ℤ t) → ⊥
 
-  steps-more : 2 ≤ legs .left .n + legs .right .n
-  steps-more = two-steps (omega arith) (omega arith) three flip
+  module _ (three : 3 ≤ w) where
+    is-paid : PaidFor (b + c + 1) (b + 1) (mostOf (b + c + 1) (b + 1) w) last
+    is-paid = paid-for (omega arith) (omega arith) (omega arith) flip
 
-  -- a Normal edge and an Extra one on whichever side keep apart: so do any two
-  pub whichever : (x y s : ℤ) → 1 ≤ b + c
-      → (legs .left .extra ≡ false → legs .right .extra ≡ true → Normal (b + c + 1) (b + 1) (x -ℤ pos (legs .left .n)) (y -ℤ pos (legs .left .e)) → Extra (b + c + 1) (b + 1) (negℤ x -ℤ pos (legs .right .n) +ℤ negℤ s) (negℤ y -ℤ pos (legs .right .e) -ℤ negℤ s) → ⊥)
-      → (legs .left .extra ≡ true → legs .right .extra ≡ false → Normal (b + c + 1) (b + 1) (negℤ x -ℤ pos (legs .right .n)) (negℤ y -ℤ pos (legs .right .e)) → Extra (b + c + 1) (b + 1) (x -ℤ pos (legs .left .n) +ℤ s) (y -ℤ pos (legs .left .e) -ℤ s) → ⊥)
-      → Sighted (b + c + 1) (b + 1) x y s (legs .left) → Sighted (b + c + 1) (b + 1) (negℤ x) (negℤ y) (negℤ s) (legs .right) → ⊥
-  whichever x y s some right left (normal lt h) (normal rt k) = omega (arith, gap-more, both-normal (b + c + 1) (b + 1) (legs .left .n) (legs .left .e) (legs .right .n) (legs .right .e) x y h k)
-  whichever x y s some right left (normal lt h) (extra rt k) = right lt rt h k
-  whichever x y s some right left (extra lt h) (normal rt k) = left lt rt k h
-  whichever x y s some right left (extra lt h) (extra rt k) =
-      extra-wide b c (legs .left .n + legs .right .n) (legs .left .e + legs .right .e) some steps-more (omega (arith, gap-more)) (omega (arith, both-extra (b + c + 1) (b + 1) (legs .left .n) (legs .left .e) (legs .right .n) (legs .right .e) x y s h k))
+    gap-more : b + c + 1 + (b + 1) < gap (b + c + 1) (b + 1) last
+    gap-more = gap-wide (omega arith) (omega arith) three flip
 
-  module _ (most : w ≤ 64) (x y : ℤ) (disc : natAbs x * natAbs x + natAbs y * natAbs y ≤ 2 * w * (2 * w)) (some : 1 ≤ b + c) (even : flip ≡ true → isOdd b c w ≡ false) where
-    abbrev l : Mark
-    l = legs .left
+    steps-more : 2 ≤ last .left .n + last .right .n
+    steps-more = two-steps (omega arith) (omega arith) three flip
 
-    abbrev r : Mark
-    r = legs .right
+    -- the Extra one is on the right, or on the left
+    right-extra : last .left .extra ≡ false → last .right .extra ≡ true → OneExtra (last .left .n) (last .left .e) (last .right .n) (last .right .e)
+    unfolding passes
+    right-extra l r =
+        let prices = rw (l, r) at (is-paid .paid) in
+        record {
+          late = late-of b c (last .right .n) (last .right .e) _ (is-paid .right-fairly .late r) (omega arith);
+          wide = wide-of b c w (last .sum) _ (is-paid .over) (omega (arith, prices));
+          passed = λ test h. rw (l, r) at h;
+        }
 
-    -- on the right, or on the left
-    right-extra : l .extra ≡ false → r .extra ≡ true → Normal (b + c + 1) (b + 1) (x -ℤ pos (l .n)) (y -ℤ pos (l .e)) → Extra (b + c + 1) (b + 1) (negℤ x -ℤ pos (r .n) +ℤ pos 0) (negℤ y -ℤ pos (r .e) -ℤ pos 0) → ⊥
-    unfolding keptBy
-    right-extra lt rt h k =
-        let prices = rw (lt, rt) at (pays .paid) in
-        start-no b c w (l .n) (l .e) (r .n) (r .e) x y disc some h k three
-        (late-of b c (r .n) (r .e) _ (pays .right-fairly .late rt) (omega arith))
-        (wide-of b c w 0 (legs .sum) _ (pays .over) (omega (arith, prices)))
-        (λ small ten. rw (lt, rt) at (few-keep b c w flip some small three ten even))
-        (λ zero one eleven. rw (lt, rt) at (many-keep b c w flip zero one eleven most))
+    left-extra : last .left .extra ≡ true → last .right .extra ≡ false → OneExtra (last .right .n) (last .right .e) (last .left .n) (last .left .e)
+    unfolding passes
+    left-extra l r =
+        let prices = rw (l, r) at (is-paid .paid) in
+        record {
+          late = late-of b c (last .left .n) (last .left .e) _ (is-paid .left-fairly .late l) (omega arith);
+          wide = wide-of b c w (last .sum) _ (is-paid .over) (omega (arith, prices));
+          passed = λ test h. rw (l, r) at h;
+        }
 
-    left-extra : l .extra ≡ true → r .extra ≡ false → Normal (b + c + 1) (b + 1) (negℤ x -ℤ pos (r .n)) (negℤ y -ℤ pos (r .e)) → Extra (b + c + 1) (b + 1) (x -ℤ pos (l .n) +ℤ pos 0) (y -ℤ pos (l .e) -ℤ pos 0) → ⊥
-    unfolding keptBy
-    left-extra lt rt h k =
-        let prices = rw (lt, rt) at (pays .paid) in
-        start-no b c w (r .n) (r .e) (l .n) (l .e) (negℤ x) (negℤ y) (rw (abs-neg x, abs-neg y) disc) some h (rw (negℤ-negℤ x, negℤ-negℤ y) k) three
-        (late-of b c (l .n) (l .e) _ (pays .left-fairly .late lt) (omega arith))
-        (wide-of b c w 0 (legs .sum) _ (pays .over) (omega (arith, prices)))
-        (λ small ten. rw (lt, rt) at (few-keep b c w flip some small three ten even))
-        (λ zero one eleven. rw (lt, rt) at (many-keep b c w flip zero one eleven most))
+    -- so no two do
+    module _ (x y s : ℤ) (some : 1 ≤ b + c) where
+      pub none-together : Parted x y s → Sighted (b + c + 1) (b + 1) x y s (last .left) → Sighted (b + c + 1) (b + 1) (negℤ x) (negℤ y) (negℤ s) (last .right) → ⊥
+      none-together parted (normal l h) (normal r k) = omega (arith, gap-more, both-normal (b + c + 1) (b + 1) (last .left .n) (last .left .e) (last .right .n) (last .right .e) x y h k)
+      none-together parted (normal l h) (extra r k) = parted _ _ _ _ x y (negℤ s) (right-extra l r) refl refl (abs-neg s) h k
+      none-together parted (extra l h) (normal r k) = parted _ _ _ _ (negℤ x) (negℤ y) s (left-extra l r) (abs-neg x) (abs-neg y) refl k (rw (negℤ-negℤ x, negℤ-negℤ y) h)
+      none-together parted (extra l h) (extra r k) =
+          extra-wide b c (last .left .n + last .right .n) (last .left .e + last .right .e) some steps-more (omega (arith, gap-more))
+          (omega (arith, both-extra (b + c + 1) (b + 1) (last .left .n) (last .left .e) (last .right .n) (last .right .e) x y s h k))
 
-    pub starts-apart : Sighted (b + c + 1) (b + 1) x y (pos 0) l → Sighted (b + c + 1) (b + 1) (negℤ x) (negℤ y) (pos 0) r → ⊥
-    starts-apart = whichever x y (pos 0) some right-extra left-extra
+    module _ (most : w ≤ 64) (x y : ℤ) (disc : natAbs x * natAbs x + natAbs y * natAbs y ≤ 2 * w * (2 * w)) (some : 1 ≤ b + c) (unless : flip ≡ true → isExcepted b c w ≡ false) where
+      start-parted : Parted x y (pos 0)
+      start-parted n e p f u v t one u-is v-is t-is h k =
+          let none : t ≡ pos 0 = omega (linear, t-is, abs-parts t) in
+          start-no b c w n e p f u v (rw (u-is, v-is) disc) some h (rw none at k) three (one .late) (one .wide)
+          (λ small ten. one .passed (keeps b c w) (few-keep b c w flip some small three ten unless))
+          (λ zero one-more eleven. one .passed (keeps b c w) (many-keep b c w flip zero one-more eleven most))
+
+      pub starts-apart : Sighted (b + c + 1) (b + 1) x y (pos 0) (last .left) → Sighted (b + c + 1) (b + 1) (negℤ x) (negℤ y) (pos 0) (last .right) → ⊥
+      starts-apart = none-together x y (pos 0) some start-parted

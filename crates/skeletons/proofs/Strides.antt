@@ -31,13 +31,16 @@ pub record Gauged (p : Parameters) (a b : ℕ) : Type 0 where
   pub gains : p .gain ≡ pos (2 * b)
   pub loses : p .loss ≡ pos (2 * a)
 
+pub record Unit (p : Parameters) : Type 0 where
+  pub major-unit : dotProduct (p .major) (p .major) ≡ pos 1
+  pub crossed : dotProduct (p .major) (p .minor) ≡ pos 0
+  pub crossed-back : dotProduct (p .minor) (p .major) ≡ pos 0
+  pub minor-unit : dotProduct (p .minor) (p .minor) ≡ pos 1
+
 pub record Measured (plan : Plan) (a b : ℕ) : Type 0 where
   pub across-is : Gauged (plan .perpendicular) a b
   pub along-is : Gauged (plan .parallel) a b
-  pub major-unit : dotProduct (plan .perpendicular .major) (plan .perpendicular .major) ≡ pos 1
-  pub crossed : dotProduct (plan .perpendicular .major) (plan .perpendicular .minor) ≡ pos 0
-  pub crossed-back : dotProduct (plan .perpendicular .minor) (plan .perpendicular .major) ≡ pos 0
-  pub minor-unit : dotProduct (plan .perpendicular .minor) (plan .perpendicular .minor) ≡ pos 1
+  pub steps : Unit (plan .perpendicular)
 
 -- away from the line on the left, and on the right
 abbrev pub outward : Side → ℤ → ℤ
@@ -54,6 +57,7 @@ pub record Strode (plan : Plan) (o : Point) (side : Side) (p : Point) (n e : ℕ
   pub major : outward side (dotProduct (plan .perpendicular .major) (minus p o)) ≡ pos n
   pub minor : outward side (dotProduct (plan .perpendicular .minor) (minus p o)) ≡ pos e
 
+-- a side stands where its counts say, with both errors that they make: its own, and that with which its parallels begin
 pub record Stands (plan : Plan) (a b : ℕ) (o : Point) (side : Side) (f : Flank) (t : Tread) : Type 0 where
   pub strode : Strode plan o side (f .at .point) (t .n) (t .e)
   pub error : outward side (f .at .error) ≡ pos (2 * b * t .n) -ℤ pos (2 * a * t .e)
@@ -98,12 +102,12 @@ module _ {plan : Plan} {a b : ℕ} (m : Measured plan a b) (o : Point) (side : S
   on-major : {p : Point} {n e : ℕ} → Strode plan o side p n e → Strode plan o side (went side p (q .major)) (n + 1) e
   on-major {p} {n} {e} s =
       let none : e + 0 ≡ e = omega arith in
-      record { major = moved side (q .major) (q .major) p o n 1 (s .major) (m .major-unit); minor = rw none at (moved side (q .minor) (q .major) p o e 0 (s .minor) (m .crossed-back)) }
+      record { major = moved side (q .major) (q .major) p o n 1 (s .major) (m .steps .major-unit); minor = rw none at (moved side (q .minor) (q .major) p o e 0 (s .minor) (m .steps .crossed-back)) }
 
   on-minor : {p : Point} {n e : ℕ} → Strode plan o side p n e → Strode plan o side (went side p (q .minor)) n (e + 1)
   on-minor {p} {n} {e} s =
       let none : n + 0 ≡ n = omega arith in
-      record { major = rw none at (moved side (q .major) (q .minor) p o n 0 (s .major) (m .crossed)); minor = moved side (q .minor) (q .minor) p o e 1 (s .minor) (m .minor-unit) }
+      record { major = rw none at (moved side (q .major) (q .minor) p o n 0 (s .major) (m .steps .crossed)); minor = moved side (q .minor) (q .minor) p o e 1 (s .minor) (m .steps .minor-unit) }
 
 -- ---- when a step is due, and when an Extra point is handed out
 

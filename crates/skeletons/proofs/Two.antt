@@ -15,9 +15,8 @@ use Rattle.whole.proofs.Steps.{one-or, square-is}
 use Rattle.shapes.specs.declared.Point.{Point}
 use Rattle.shapes.specs.declared.Line.{Line}
 use Rattle.shapes.specs.declared.Side.the-variants.{Left}
-use Rattle.shapes.specs.Limits.{lineLimit, thickLimit}
 use Rattle.shapes.specs.declared.Side.{Side}
-use Rattle.shapes.specs.Shape.{pointOf, lineOf, LineNear, minus, determinant, dotProduct, delta}
+use Rattle.shapes.specs.Shape.{pointOf, lineOf, minus, determinant, dotProduct, delta}
 use Rattle.bresenham.proofs.Laws.{longer, shorter}
 use Rattle.parallels.specs.Parallels.{aimed}
 use Rattle.intersection_params.specs.declared.Solution.{Solution}
@@ -25,7 +24,8 @@ use Rattle.intersection_params.specs.Crossing.{solutionOf}
 use Rattle.intersection_params.proofs.Laws.{solution-true}
 use Rattle.intersection_params.specs.Words.{OnLine, IsDrawn}
 use Rattle.skeletons.proofs.Firsts.{Beside, beside-two}
-use Rattle.skeletons.proofs.Strokes.{a, b, flip, counts, edge, some, less, short, step, turn, ends-at, starts-at, Solid, delta-normal, delta-extra}
+use Rattle.skeletons.proofs.Strokes.{Fits, flip, counts, edge, step, off, Solid, some, less, short, starts-at, ends-at, delta-normal, delta-extra}
+use Rattle.skeletons.proofs.Marches.{larger, smaller}
 use Rattle.skeletons.proofs.Frames.{major, minor, reduce, across-delta, across-reduce, across-cut, Sizes, sizes, one-step, product, diagonal}
 use Rattle.skeletons.proofs.Sights.{opposite-steps}
 
@@ -45,9 +45,9 @@ half-out a b d x y some less moves p q on =
     let way = pos a *ℤ x +ℤ pos b *ℤ y in
     let is : pos a *ℤ d ≡ way = ring 5 (λ a b d x y. since (con (negsuc 0)) (a ⊗ (x ⊖ d) ⊕ b ⊗ y) (con (pos 0)) (a ⊗ d ≈ a ⊗ x ⊕ b ⊗ y)) refl (pos a) (pos b) d x y on in
     let far : a * natAbs d ≤ a * natAbs x + b * natAbs y = omega (arith, ap natAbs is, abs-mul (pos a) d, abs-add (pos a *ℤ x) (pos b *ℤ y), abs-mul (pos a) x, abs-mul (pos b) y) in
-    let even : a ≡ b = ⊎-elim (λ low. omega arith) (λ high. absurd (omega (arith, far, some-abs d moves, mul-le-mul-left a p, mul-le-mul-left b q, mul-le-mul-right (natAbs d) high))) (le-or-lt a b) in
+    let equal : a ≡ b = ⊎-elim (λ low. omega arith) (λ high. absurd (omega (arith, far, some-abs d moves, mul-le-mul-left a p, mul-le-mul-left b q, mul-le-mul-right (natAbs d) high))) (le-or-lt a b) in
     let not-zero : pos a ≢ pos 0 = λ z. omega (arith, ap natAbs z) in
-    (even, half-sum d x y p q (*ℤ-cancel (pos a) d (x +ℤ y) not-zero (is ∙ ring 5 (λ a b d x y. since y b a (a ⊗ x ⊕ b ⊗ y ≈ a ⊗ (x ⊕ y))) refl (pos a) (pos b) d x y (ap pos (sym even)))))
+    (equal, half-sum d x y p q (*ℤ-cancel (pos a) d (x +ℤ y) not-zero (is ∙ ring 5 (λ a b d x y. since y b a (a ⊗ x ⊕ b ⊗ y ≈ a ⊗ (x ⊕ y))) refl (pos a) (pos b) d x y (ap pos (sym equal)))))
 
 -- ---- an Extra edge, seen from its end: it is s nearer along the one axis, and farther along the other
 
@@ -116,9 +116,9 @@ module _ (t : Solution) (q : Point) where
   from-point c p =
       ring 9 (λ n x y u v p r a b. u ⊗ (x ⊖ n ⊗ p) ⊕ v ⊗ (y ⊖ n ⊗ r) ≈ (u ⊗ (x ⊖ n ⊗ a) ⊕ v ⊗ (y ⊖ n ⊗ b)) ⊖ n ⊗ (u ⊗ (p ⊖ a) ⊕ v ⊗ (r ⊖ b))) refl n (t .x) (t .y) (c .x) (c .y) (p .x) (p .y) (q .x) (q .y)
 
-  pub from-end : (l : Line) → determinant (delta l) (from (l .end)) ≡ determinant (delta l) (from (l .start))
+  from-either : (l : Line) → determinant (delta l) (from (l .end)) ≡ determinant (delta l) (from (l .start))
   unfolding determinant delta minus
-  from-end l =
+  from-either l =
       ring 7 (λ n x y a b p r. (p ⊖ a) ⊗ (y ⊖ n ⊗ r) ⊖ (r ⊖ b) ⊗ (x ⊖ n ⊗ p) ≈ (p ⊖ a) ⊗ (y ⊖ n ⊗ b) ⊖ (r ⊖ b) ⊗ (x ⊖ n ⊗ a)) refl n (t .x) (t .y) (l .start .x) (l .start .y) (l .end .x) (l .end .y)
 
 -- it lies on a line of a delta, or of one that is shorter
@@ -126,12 +126,12 @@ on-normal : (d v : Point) → determinant d v ≡ pos 0 → pos (longer d) *ℤ 
 on-normal d v e = ring 1 (λ x. since (con (negsuc 0)) (neg x) (con (pos 0)) (x ≈ con (pos 0))) refl (pos (longer d) *ℤ dotProduct (major d) v +ℤ pos (shorter d) *ℤ dotProduct (minor d) v) (sym (across-delta d v) ∙ e)
 
 on-extra : (d v : Point) (a b : ℕ) → longer d ≡ a + 1 → shorter d ≡ b + 1 → determinant (minus d (reduce d)) v ≡ pos 0 → pos a *ℤ dotProduct (major d) v +ℤ pos b *ℤ dotProduct (minor d) v ≡ pos 0
-on-extra d v a b larger smaller e =
+on-extra d v a b larger-is smaller-is e =
     let x = dotProduct (major d) v in
     let y = dotProduct (minor d) v in
     let is = sym (across-cut d v) ∙ e in
-    let far : negℤ (pos (longer d) *ℤ x +ℤ pos (shorter d) *ℤ y) -ℤ negℤ (x +ℤ y) ≡ pos 0 = rw (across-delta d v, across-reduce d (omega (arith, smaller)) v) at is in
-    let parts : negℤ (pos (a + 1) *ℤ x +ℤ pos (b + 1) *ℤ y) -ℤ negℤ (x +ℤ y) ≡ pos 0 = rw (larger, smaller) at far in
+    let far : negℤ (pos (longer d) *ℤ x +ℤ pos (shorter d) *ℤ y) -ℤ negℤ (x +ℤ y) ≡ pos 0 = rw (across-delta d v, across-reduce d (omega (arith, smaller-is)) v) at is in
+    let parts : negℤ (pos (a + 1) *ℤ x +ℤ pos (b + 1) *ℤ y) -ℤ negℤ (x +ℤ y) ≡ pos 0 = rw (larger-is, smaller-is) at far in
     ring 4 (λ a b x y. since (con (negsuc 0)) (neg ((a ⊕ con (pos 1)) ⊗ x ⊕ (b ⊕ con (pos 1)) ⊗ y) ⊖ neg (x ⊕ y)) (con (pos 0)) (a ⊗ x ⊕ b ⊗ y ≈ con (pos 0))) refl (pos a) (pos b) x y parts
 
 one-fewer : (z : ℤ) (n : ℕ) (s : ℤ) → z ≡ pos n *ℤ s → z -ℤ s ≡ (pos n -ℤ pos 1) *ℤ s
@@ -139,15 +139,16 @@ one-fewer z n s e = ring 3 (λ z n s. since (con (pos 1)) z (n ⊗ s) (z ⊖ s �
 
 -- ---- the left edge of a leg
 
-module _ (l : Line) (near : LineNear lineLimit l) (small : 2 ≤ thickLimit) (t : Solution) (moves : t .determinant ≢ pos 0) (solid : Solid l 2 near small Left) where
+module _ {l : Line} (fits : Fits l 2) where
+  pub two-beside : Beside (larger l) (smaller l) (counts l 2)
+  two-beside = beside-two (some fits) (less l) (flip l 2)
+
+module _ {l : Line} (fits : Fits l 2) (t : Solution) (moves : t .determinant ≢ pos 0) (solid : Solid l 2 Left) where
   abbrev d : Point
   d = aimed l
 
   abbrev E : Line
-  E = edge l 2 near small Left
-
-  two-beside : Beside (some l 2 near small) (less l 2 near small) (flip l 2 near small) (counts l 2 near small)
-  two-beside = beside-two (some l 2 near small) (less l 2 near small) (flip l 2 near small)
+  E = edge l 2 Left
 
   -- how far the crossing is along the axes
   abbrev along : Point → ℤ
@@ -164,75 +165,75 @@ module _ (l : Line) (near : LineNear lineLimit l) (small : 2 ≤ thickLimit) (t 
     y-way : dotProduct (minor d) (from t q p) ≡ beyond q -ℤ t .determinant *ℤ y
     y-way = from-point t q (minor d) p ∙ ap (λ k. beyond q -ℤ t .determinant *ℤ k) y-is
 
-    by-normal : counts l 2 near small .left .extra ≡ false → pos (longer d) *ℤ (along q -ℤ t .determinant *ℤ x) +ℤ pos (shorter d) *ℤ (beyond q -ℤ t .determinant *ℤ y) ≡ pos 0
-    by-normal e = rw (x-way, y-way) at (on-normal d (from t q p) (rw (delta-normal l 2 near small (omega arith) Left e ∙ solid .aim) at on))
+    by-normal : counts l 2 .left .extra ≡ false → pos (longer d) *ℤ (along q -ℤ t .determinant *ℤ x) +ℤ pos (shorter d) *ℤ (beyond q -ℤ t .determinant *ℤ y) ≡ pos 0
+    by-normal e = rw (x-way, y-way) at (on-normal d (from t q p) (rw (delta-normal fits Left e ∙ solid .aim) at on))
 
-    by-extra : (a b : ℕ) → longer d ≡ a + 1 → shorter d ≡ b + 1 → counts l 2 near small .left .extra ≡ true → pos a *ℤ (along q -ℤ t .determinant *ℤ x) +ℤ pos b *ℤ (beyond q -ℤ t .determinant *ℤ y) ≡ pos 0
-    by-extra a b larger smaller e = rw (x-way, y-way) at (on-extra d (from t q p) a b larger smaller (rw (delta-extra l 2 near small (omega arith) Left e ∙ ap (λ k. minus k (reduce d)) (solid .aim)) at on))
+    by-extra : (a b : ℕ) → longer d ≡ a + 1 → shorter d ≡ b + 1 → counts l 2 .left .extra ≡ true → pos a *ℤ (along q -ℤ t .determinant *ℤ x) +ℤ pos b *ℤ (beyond q -ℤ t .determinant *ℤ y) ≡ pos 0
+    by-extra a b larger-is smaller-is e = rw (x-way, y-way) at (on-extra d (from t q p) a b larger-is smaller-is (rw (delta-extra fits Left e ∙ ap (λ k. minus k (reduce d)) (solid .aim)) at on))
 
   -- the deltas of an Extra edge are one shorter, and it still has a length
   record Cut : Type 0 where
     a′ : ℕ
     b′ : ℕ
-    larger : longer d ≡ a′ + 1
-    smaller : shorter d ≡ b′ + 1
+    larger-is : longer d ≡ a′ + 1
+    smaller-is : shorter d ≡ b′ + 1
     some′ : 1 ≤ a′
     less′ : b′ ≤ a′
     steep′ : a′ < 2 * b′ + 1
 
-  cut : counts l 2 near small .left .extra ≡ true → Cut
+  cut : counts l 2 .left .extra ≡ true → Cut
   cut e =
-      let one = short l 2 near small (omega arith) Left e in
+      let one = short fits (omega arith) Left e in
       let long = solid .long e in
-      let order = less l 2 near small in
-      let steep = two-beside .steep e in
-      record { a′ = longer d - 1; b′ = shorter d - 1; larger = omega arith; smaller = omega arith; some′ = omega arith; less′ = omega arith; steep′ = omega arith }
+      let order = less l in
+      let steep = two-beside fits .steep e in
+      record { a′ = longer d - 1; b′ = shorter d - 1; larger-is = omega arith; smaller-is = omega arith; some′ = omega arith; less′ = omega arith; steep′ = omega arith }
 
-  even-cut : (c : Cut) → c .a′ ≡ c .b′ → longer d ≡ shorter d
-  even-cut c e = c .larger ∙ ap (λ k. k + 1) e ∙ sym (c .smaller)
+  equal-cut : (c : Cut) → c .a′ ≡ c .b′ → longer d ≡ shorter d
+  equal-cut c e = c .larger-is ∙ ap (λ k. k + 1) e ∙ sym (c .smaller-is)
 
   -- it comes to the square round the leg's start only along a diagonal
   start-half : OnLine E t → 2 * natAbs (along (l .start)) ≤ natAbs (t .determinant) → 2 * natAbs (beyond (l .start)) ≤ natAbs (t .determinant) → (longer d ≡ shorter d) × Halves (t .determinant) (along (l .start)) (beyond (l .start))
-  start-half on p r = by (counts l 2 near small .left .extra) refl
+  start-half on p r = by (counts l 2 .left .extra) refl
     where
       x-is : dotProduct (major d) (minus (E .start) (l .start)) ≡ pos 1
-      x-is = starts-at l 2 near small Left .major-at ∙ ap pos (two-beside .one)
+      x-is = starts-at fits Left .major-at ∙ ap pos (two-beside fits .one)
 
       y-is : dotProduct (minor d) (minus (E .start) (l .start)) ≡ pos 0
-      y-is = starts-at l 2 near small Left .minor-at ∙ ap pos (two-beside .none)
+      y-is = starts-at fits Left .minor-at ∙ ap pos (two-beside fits .none)
 
-      by : (u : Bool) → counts l 2 near small .left .extra ≡ u → (longer d ≡ shorter d) × Halves (t .determinant) (along (l .start)) (beyond (l .start))
-      by false e = half-out (longer d) (shorter d) (t .determinant) (along (l .start)) (beyond (l .start)) (some l 2 near small) (less l 2 near small) moves p r (simp (*ℤ-id, *ℤ-zero, +ℤ-idr) at (by-normal (l .start) (E .start) (pos 1) (pos 0) on x-is y-is e))
+      by : (u : Bool) → counts l 2 .left .extra ≡ u → (longer d ≡ shorter d) × Halves (t .determinant) (along (l .start)) (beyond (l .start))
+      by false e = half-out (longer d) (shorter d) (t .determinant) (along (l .start)) (beyond (l .start)) (some fits) (less l) moves p r (simp (*ℤ-id, *ℤ-zero, +ℤ-idr) at (by-normal (l .start) (E .start) (pos 1) (pos 0) on x-is y-is e))
       by true e =
           let c = cut e in
-          let h = half-out (c .a′) (c .b′) (t .determinant) (along (l .start)) (beyond (l .start)) (c .some′) (c .less′) moves p r (simp (*ℤ-id, *ℤ-zero, +ℤ-idr) at (by-extra (l .start) (E .start) (pos 1) (pos 0) on x-is y-is (c .a′) (c .b′) (c .larger) (c .smaller) e)) in
-          (even-cut c (h .0), h .1)
+          let h = half-out (c .a′) (c .b′) (t .determinant) (along (l .start)) (beyond (l .start)) (c .some′) (c .less′) moves p r (simp (*ℤ-id, *ℤ-zero, +ℤ-idr) at (by-extra (l .start) (E .start) (pos 1) (pos 0) on x-is y-is (c .a′) (c .b′) (c .larger-is) (c .smaller-is) e)) in
+          (equal-cut c (h .0), h .1)
 
   -- and round its end too, where the crossing is half out along both axes
   end-half : OnLine E t → 2 * natAbs (along (l .end)) ≡ natAbs (t .determinant) → 2 * natAbs (beyond (l .end)) ≡ natAbs (t .determinant) → (longer d ≡ shorter d) × Halves (t .determinant) (along (l .end)) (beyond (l .end))
-  end-half on p r = by (counts l 2 near small .left .extra) refl
+  end-half on p r = by (counts l 2 .left .extra) refl
     where
       s : ℤ
-      s = step l 2 near small Left
+      s = step l Left
 
       on-end : determinant (delta E) (from t (l .end) (E .end)) ≡ pos 0
-      on-end = from-end t (l .end) E ∙ on
+      on-end = from-either t (l .end) E ∙ on
 
-      x-is : dotProduct (major d) (minus (E .end) (l .end)) ≡ pos 1 -ℤ turn (counts l 2 near small .left .extra) s
-      x-is = ends-at l 2 near small (omega arith) Left .major-at ∙ ap (λ k. pos k -ℤ turn (counts l 2 near small .left .extra) s) (two-beside .one)
+      x-is : dotProduct (major d) (minus (E .end) (l .end)) ≡ pos 1 -ℤ off (counts l 2 .left .extra) s
+      x-is = ends-at fits (omega arith) Left .major-at ∙ ap (λ k. pos k -ℤ off (counts l 2 .left .extra) s) (two-beside fits .one)
 
-      y-is : dotProduct (minor d) (minus (E .end) (l .end)) ≡ pos 0 +ℤ turn (counts l 2 near small .left .extra) s
-      y-is = ends-at l 2 near small (omega arith) Left .minor-at ∙ ap (λ k. pos k +ℤ turn (counts l 2 near small .left .extra) s) (two-beside .none)
+      y-is : dotProduct (minor d) (minus (E .end) (l .end)) ≡ pos 0 +ℤ off (counts l 2 .left .extra) s
+      y-is = ends-at fits (omega arith) Left .minor-at ∙ ap (λ k. pos k +ℤ off (counts l 2 .left .extra) s) (two-beside fits .none)
 
-      by : (u : Bool) → counts l 2 near small .left .extra ≡ u → (longer d ≡ shorter d) × Halves (t .determinant) (along (l .end)) (beyond (l .end))
+      by : (u : Bool) → counts l 2 .left .extra ≡ u → (longer d ≡ shorter d) × Halves (t .determinant) (along (l .end)) (beyond (l .end))
       by false e =
-          let eq = by-normal (l .end) (E .end) (pos 1) (pos 0) on-end (x-is ∙ ap (λ u. pos 1 -ℤ turn u s) e) (y-is ∙ ap (λ u. pos 0 +ℤ turn u s) e) e in
-          half-out (longer d) (shorter d) (t .determinant) (along (l .end)) (beyond (l .end)) (some l 2 near small) (less l 2 near small) moves (omega (arith, p)) (omega (arith, r)) (simp (*ℤ-id, *ℤ-zero, +ℤ-idr) at eq)
+          let eq = by-normal (l .end) (E .end) (pos 1) (pos 0) on-end (x-is ∙ ap (λ u. pos 1 -ℤ off u s) e) (y-is ∙ ap (λ u. pos 0 +ℤ off u s) e) e in
+          half-out (longer d) (shorter d) (t .determinant) (along (l .end)) (beyond (l .end)) (some fits) (less l) moves (omega (arith, p)) (omega (arith, r)) (simp (*ℤ-id, *ℤ-zero, +ℤ-idr) at eq)
       by true e =
           let c = cut e in
-          let eq = by-extra (l .end) (E .end) (pos 1 -ℤ s) s on-end (x-is ∙ ap (λ u. pos 1 -ℤ turn u s) e) (y-is ∙ ap (λ u. pos 0 +ℤ turn u s) e ∙ +ℤ-idl s) (c .a′) (c .b′) (c .larger) (c .smaller) e in
+          let eq = by-extra (l .end) (E .end) (pos 1 -ℤ s) s on-end (x-is ∙ ap (λ u. pos 1 -ℤ off u s) e) (y-is ∙ ap (λ u. pos 0 +ℤ off u s) e ∙ +ℤ-idl s) (c .a′) (c .b′) (c .larger-is) (c .smaller-is) e in
           let h = half-cut (c .a′) (c .b′) (c .some′) (c .less′) (c .steep′) (t .determinant) (along (l .end)) (beyond (l .end)) s moves (one-step d) p r eq in
-          (even-cut c (h .0), h .1)
+          (equal-cut c (h .0), h .1)
 
   -- then the step that an Extra edge is shorter is square to the way from there, and the edge is so many of them
   record Diagonal (v : Point) : Type 0 where
@@ -243,10 +244,10 @@ module _ (l : Line) (near : LineNear lineLimit l) (small : 2 ≤ thickLimit) (t 
 
   diagonal-by : (v : Point) → longer d ≡ shorter d → Halves (t .determinant) (dotProduct (major d) v) (dotProduct (minor d) v) → Diagonal v
   unfolding minus
-  diagonal-by v even h = by (counts l 2 near small .left .extra) refl
+  diagonal-by v equal h = by (counts l 2 .left .extra) refl
     where
       one : 1 ≤ shorter d
-      one = omega (arith, even, some l 2 near small)
+      one = omega (arith, equal, some fits)
 
       same : dotProduct (major d) v ≡ dotProduct (minor d) v
       same = *ℤ-cancel (pos 2) (dotProduct (major d) v) (dotProduct (minor d) v) (λ z. omega (arith, ap natAbs z)) (h .x-half ∙ sym (h .y-half))
@@ -256,14 +257,14 @@ module _ (l : Line) (near : LineNear lineLimit l) (small : 2 ≤ thickLimit) (t 
           product d (reduce d) v ∙ ap (λ k. dotProduct (major d) (reduce d) *ℤ dotProduct (major d) v +ℤ k *ℤ dotProduct (minor d) v) (opposite-steps d one)
           ∙ ring 3 (λ s x y. since s x y (s ⊗ x ⊕ neg s ⊗ y ≈ con (pos 0))) refl (dotProduct (major d) (reduce d)) (dotProduct (major d) v) (dotProduct (minor d) v) same
 
-      by : (u : Bool) → counts l 2 near small .left .extra ≡ u → Diagonal v
+      by : (u : Bool) → counts l 2 .left .extra ≡ u → Diagonal v
       by false e =
-          let is = delta-normal l 2 near small (omega arith) Left e ∙ solid .aim in
-          let along-it = diagonal d even in
+          let is = delta-normal fits Left e ∙ solid .aim in
+          let along-it = diagonal d equal in
           record { square = flat; times-of = pos (longer d); x-of = ap (λ p. p .x) is ∙ along-it .0; y-of = ap (λ p. p .y) is ∙ along-it .1 }
       by true e =
-          let is = delta-extra l 2 near small (omega arith) Left e ∙ ap (λ k. minus k (reduce d)) (solid .aim) in
-          let along-it = diagonal d even in
+          let is = delta-extra fits Left e ∙ ap (λ k. minus k (reduce d)) (solid .aim) in
+          let along-it = diagonal d equal in
           record { square = flat; times-of = pos (longer d) -ℤ pos 1; x-of = ap (λ p. p .x) is ∙ one-fewer (d .x) (longer d) (reduce d .x) (along-it .0); y-of = ap (λ p. p .y) is ∙ one-fewer (d .y) (longer d) (reduce d .y) (along-it .1) }
 
 -- ---- two directions that are square to one way are one
@@ -311,14 +312,14 @@ half-size d x e = sym (abs-mul (pos 2) x) ∙ ap natAbs e
 
 -- ---- the crossing of the two left edges of a bend, drawn at its point
 
-module _ (p q r : Point) (first-near : LineNear lineLimit (lineOf p q)) (second-near : LineNear lineLimit (lineOf q r)) (small : 2 ≤ thickLimit) where
+module _ {p q r : Point} (first-fits : Fits (lineOf p q) 2) (second-fits : Fits (lineOf q r) 2) where
   abbrev first : Line
-  first = edge (lineOf p q) 2 first-near small Left
+  first = edge (lineOf p q) 2 Left
 
   abbrev second : Line
-  second = edge (lineOf q r) 2 second-near small Left
+  second = edge (lineOf q r) 2 Left
 
-  pub two-never : {s : Side} → IsDrawn second first q s → Solid (lineOf p q) 2 first-near small Left → Solid (lineOf q r) 2 second-near small Left → ⊥
+  pub two-never : {s : Side} → IsDrawn second first q s → Solid (lineOf p q) 2 Left → Solid (lineOf q r) 2 Left → ⊥
   two-never drawn before after =
       let t = solutionOf second first in
       let real = solution-true second first (drawn .crosses) in
@@ -329,11 +330,11 @@ module _ (p q r : Point) (first-near : LineNear lineLimit (lineOf p q)) (second-
       let x-small : 2 * natAbs (v .x) ≤ natAbs n = rw (gap-turned (t .x) n (q .x)) (drawn .nearest-x t real .near) in
       let y-small : 2 * natAbs (v .y) ≤ natAbs n = rw (gap-turned (t .y) n (q .y)) (drawn .nearest-y t real .near) in
       let both = small-by (natAbs (dotProduct (major d) v)) (natAbs (dotProduct (minor d) v)) (natAbs n) v (sizes d v) x-small y-small in
-      let h = start-half (lineOf q r) second-near small t (real .some) after (real .on-first) (both .0) (both .1) in
+      let h = start-half second-fits t (real .some) after (real .on-first) (both .0) (both .1) in
       let halves = half-by (natAbs (dotProduct (major d) v)) (natAbs (dotProduct (minor d) v)) (natAbs (dotProduct (major c) v)) (natAbs (dotProduct (minor c) v)) (natAbs n) v (sizes d v) (sizes c v) (half-size n (dotProduct (major d) v) (h .1 .x-half)) (half-size n (dotProduct (minor d) v) (h .1 .y-half)) in
-      let k = end-half (lineOf p q) first-near small t (real .some) before (real .on-second) (halves .0) (halves .1) in
-      let e = diagonal-by (lineOf q r) second-near small t (real .some) after v (h .0) (h .1) in
-      let f = diagonal-by (lineOf p q) first-near small t (real .some) before v (k .0) (k .1) in
+      let k = end-half first-fits t (real .some) before (real .on-second) (halves .0) (halves .1) in
+      let e = diagonal-by second-fits t (real .some) after v (h .0) (h .1) in
+      let f = diagonal-by first-fits t (real .some) before v (k .0) (k .1) in
       let moved = some-either (natAbs (dotProduct (major d) v)) (natAbs (dotProduct (minor d) v)) v (sizes d v) (some-half n (dotProduct (major d) v) (real .some) (h .1 .x-half)) (some-half n (dotProduct (minor d) v) (real .some) (h .1 .y-half)) in
       let flat = *ℤ-null (dotProduct v v) (determinant (reduce d) (reduce c)) (some-square v moved) (*ℤ-comm (dotProduct v v) (determinant (reduce d) (reduce c)) ∙ square-both (reduce d) (reduce c) v (e .square) (f .square)) in
       drawn .crosses (multiples (delta second) (delta first) (reduce d) (reduce c) (e .times-of) (f .times-of) (e .x-of) (e .y-of) (f .x-of) (f .y-of) flat)

@@ -1,4 +1,5 @@
--- The parallels of a thick line by counts alone: how many steps each side took across the line, and where the last parallels of both sides start.
+-- The parallels of a thick line by counts alone: how many steps each side took across the line, and where the last parallels of both sides
+-- start. That the edges of a line start there is `edges-marched` (proofs/Marches.antt).
 use mathlib.Core.Bool.{Bool, true, false, cond}
 use Prim.Native.Nat.{ℕ, zero, suc, _+_, _-_, _*_}
 use lib.Dec.{ltb, leb}

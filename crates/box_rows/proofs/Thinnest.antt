@@ -1,7 +1,6 @@
 -- At widths 0 and 1 the edges of a leg are the leg itself, so that a join has one corner at which both end, and one at which both start. Assumes nothing.
 use mathlib.Core.Path.{_≡_, refl}
 use mathlib.Core.Logic.{_⊎_, ⊎-elim}
-use mathlib.Core.Bool.{Bool, true, false}
 use lib.IntN.{ℤ, pos}
 use Rattle.whole.proofs.Tests.{either}
 use Rattle.shapes.specs.declared.Point.{Point}
@@ -14,7 +13,6 @@ use Rattle.shapes.specs.Shape.{lineOf, Near}
 use Rattle.shapes.proofs.Laws.{line-of-near}
 use Rattle.intersection_params.specs.declared.Intersection.{Intersection}
 use Rattle.intersection_params.specs.declared.Intersection.the-variants.{At, Colinear, Refused}
-use Rattle.intersection_params.specs.Crossing.{nearlyColinear}
 use Rattle.extents.specs.declared.Edges.{Edges}
 use Rattle.extents.specs.Edges.{extentsOf}
 use Rattle.extents.proofs.Laws.{edges-at-zero}
@@ -24,18 +22,12 @@ use Rattle.line_join.specs.declared.Kind.{Kind}
 use Rattle.line_join.specs.declared.Kind.the-variants as kind
 use Rattle.line_join.specs.Miter.{reaches}
 use Rattle.line_join.specs.Join.{meet, cornersOf, outer, cut, overlapping, plain, bentAt, bentLeft, bentOf, startOf, endOf, joinOf}
-use Rattle.line_join.proofs.Meeting.{meet-drawn, meet-ended}
-use Rattle.skeletons.proofs.Cells.{drawn-end}
+use Rattle.skeletons.proofs.Cells.{drawn-end, met-at}
 
 -- ---- where a line meets one that begins at its end
 
-module _ (a b c : Point) where
-  meets-by : {p : Point} {s : Side} (t : Bool) → nearlyColinear (lineOf b c) (lineOf a b) ≡ t → meet (lineOf b c) (lineOf a b) ≡ At p s → p ≡ b
-  meets-by {p} {s} true e m = meet-ended (lineOf b c) (lineOf a b) p s e .0 m .at-end
-  meets-by {p} {s} false e m = drawn-end a b c (meet-drawn (lineOf b c) (lineOf a b) p s e .0 m)
-
-  meets-end : {p : Point} {s : Side} → meet (lineOf b c) (lineOf a b) ≡ At p s → p ≡ b
-  meets-end = meets-by (nearlyColinear (lineOf b c) (lineOf a b)) refl
+meets-end : (a b c : Point) {p : Point} {s : Side} → meet (lineOf b c) (lineOf a b) ≡ At p s → p ≡ b
+meets-end a b c m = ⊎-elim (λ e. e) (λ d. drawn-end a b c d) (met-at (lineOf b c) (lineOf a b) m)
 
 -- ---- of a join whose edges are the lines themselves the left and the right corner are one, where the line before ends and where the one after starts
 
@@ -46,7 +38,7 @@ pub record Merged (j : Join) : Type 0 where
 abbrev bare : Line → Edges
 bare l = record { left = l; right = l }
 
-module _ (a b c : Point) (w : ℤ) where
+module _ (a b c : Point) where
   at-edges : (k : Kind) → Merged (plain k (bare (lineOf a b)) (bare (lineOf b c)))
   at-edges k = record { ending-one = refl; starting-one = refl }
 
@@ -54,14 +46,14 @@ module _ (a b c : Point) (w : ℤ) where
   at-cut Left = record { ending-one = refl; starting-one = refl }
   at-cut Right = record { ending-one = refl; starting-one = refl }
 
-  bent-by : (x : Intersection) → meet (lineOf b c) (lineOf a b) ≡ x → Merged (bentLeft x x (bare (lineOf a b)) (bare (lineOf b c)) b w)
+  bent-by : (w : ℤ) (x : Intersection) → meet (lineOf b c) (lineOf a b) ≡ x → Merged (bentLeft x x (bare (lineOf a b)) (bare (lineOf b c)) b w)
   unfolding bentAt
-  bent-by (At p s) e =
+  bent-by w (At p s) e =
       rw (meets-end a b c e)
       (either Merged (overlapping s (bare (lineOf a b)) (bare (lineOf b c))) (λ _. at-edges (kind.Degenerate s))
       (λ _. either Merged (reaches b (outer s (cornersOf b b)) w) (λ _. record { ending-one = refl; starting-one = refl }) (λ _. at-cut s)))
-  bent-by Colinear e = at-edges kind.Colinear
-  bent-by (Refused n) e = at-edges kind.Colinear
+  bent-by w Colinear e = at-edges kind.Colinear
+  bent-by w (Refused n) e = at-edges kind.Colinear
 
 -- ---- of a line within the limit, at widths 0 and 1
 
