@@ -1,12 +1,12 @@
 -- From width 3 on: the two edges of a leg do not end in one point, where the one ends the other does not come to the square, and within a miter's reach no
 -- square has all four edges of a bend. Assumes nothing.
-use mathlib.Core.Path.{_≡_, refl, sym, ap, _∙_}
+use mathlib.Core.Path.{_≡_, ap, _∙_}
 use mathlib.Core.Logic.{_⊎_, inl, inr, ⊎-elim}
 use mathlib.Core.Bool.{Bool, true, false}
 use Prim.Native.Nat.{ℕ, _+_, _-_, _*_, _≤_}
 use native.Mathlib.Nat.{mul-le-mul-left, mul-le-mul-right}
 use native.Mathlib.Omega.{arith}
-use lib.IntN.{ℤ, pos, natAbs, negℤ, _+ℤ_, _-ℤ_, negℤ-negℤ, +ℤ-idl, +ℤ-idr, +ℤ-invr}
+use lib.IntN.{ℤ, pos, natAbs, negℤ, _+ℤ_, _-ℤ_, +ℤ-idl, +ℤ-idr, +ℤ-invr}
 use Rattle.whole.proofs.Bounds.{abs-neg}
 use Rattle.whole.proofs.Linear.{linear, sum, diff, opp, abs-parts}
 use Rattle.whole.proofs.Tests.{else-false}
@@ -22,22 +22,14 @@ use Rattle.skeletons.proofs.Cells.{Touches}
 use Rattle.skeletons.proofs.Finishes.{Spot, excepted-start, excepted-is, excepted-left, excepted-right, ends-apart}
 use Rattle.skeletons.proofs.Frames.{major, minor, reduce, Sizes, sizes, one-step}
 use Rattle.skeletons.proofs.Marches.{larger, smaller}
-use Rattle.skeletons.proofs.Sights.{Normal, Sighted, normal, extra}
+use Rattle.skeletons.proofs.Outward.{one-outward, other-side}
+use Rattle.skeletons.proofs.Sights.{Reached, Normal, Sighted, normal, extra}
 use Rattle.skeletons.proofs.Small.{isExcepted}
 use Rattle.skeletons.proofs.Starts.{starts-apart}
-use Rattle.skeletons.proofs.Strides.{outward}
 use Rattle.skeletons.proofs.Strokes.{Fits, flip, counts, markAt, edge, step, along, aside, off, Solid, some, less, short, seen-start, seen-end, ends-at}
 use Rattle.skeletons.proofs.Together.{both-normal, normal-beside, extra-beside}
 
--- ---- steps of one
-
-one-outward : (side : Side) (z : ℤ) → natAbs z ≡ 1 → natAbs (outward side z) ≡ 1
-one-outward Left z e = e
-one-outward Right z e = abs-neg z ∙ e
-
-other-side : (side : Side) (z : ℤ) → outward (swapped side) z ≡ negℤ (outward side z)
-other-side Left z = refl
-other-side Right z = sym (negℤ-negℤ z)
+-- ---- where edges end
 
 off-most : (x : Bool) (s : ℤ) → natAbs s ≡ 1 → natAbs (off x s) ≤ 1
 off-most true s e = omega (arith, e)
@@ -136,20 +128,20 @@ module _ (c b w : ℕ) (flip : Bool) (x y : ℤ) (some : 1 ≤ c) (less : b ≤ 
   both-no : Normal c b (x -ℤ pos (l .n)) (y -ℤ pos (l .e)) → Normal c b (negℤ x -ℤ pos (r .n)) (negℤ y -ℤ pos (r .e)) → ⊥
   both-no h k = omega (arith, gap-wide some less three flip, both-normal c b (l .n) (l .e) (r .n) (r .e) x y h k)
 
-  module _ (most : w ≤ 64) (disc : natAbs x * natAbs x + natAbs y * natAbs y ≤ 2 * w * (2 * w)) (unless : Excepted c b w flip → ⊥) where
+  module _ (most : w ≤ 64) (reach : Reached w x y) (unless : Excepted c b w flip → ⊥) where
     start-by : Deltas c b → Sighted c b x y (pos 0) l → Sighted c b (negℤ x) (negℤ y) (pos 0) r → ⊥
     start-by d h k =
         let other : flip ≡ true → isExcepted (d .over) (d .more) w ≡ false = λ t. else-false (isExcepted (d .over) (d .more) w) (λ o. let is = excepted-is (d .over) (d .more) w o in unless (omega (arith, d .larger-is), (omega (arith, d .smaller-is), (is .1 .1, t)))) in
-        starts-apart (d .over) (d .more) w flip three most x y disc (d .long) other (rw (d .larger-is, d .smaller-is) at h) (rw (d .larger-is, d .smaller-is) at k)
+        starts-apart (d .over) (d .more) w flip three most x y reach (d .long) other (rw (d .larger-is, d .smaller-is) at h) (rw (d .larger-is, d .smaller-is) at k)
 
     start-never : Lengthy c b l → Lengthy c b r → Sighted c b x y (pos 0) l → Sighted c b (negℤ x) (negℤ y) (pos 0) r → ⊥
     start-never p q (normal s h) (normal t k) = both-no h k
     start-never p q (normal s h) (extra t k) = start-by (deltas less (q t)) (normal s h) (extra t k)
     start-never p q (extra s h) k = start-by (deltas less (p s)) (extra s h) k
 
-module _ (c b : ℕ) (flip : Bool) (x y s : ℤ) (some : 1 ≤ c) (less : b ≤ c) (disc : natAbs x * natAbs x + natAbs y * natAbs y ≤ 144) (one : natAbs s ≡ 1) (at : (natAbs x ≡ 3) ⊎ (10 ≤ natAbs x)) where
+module _ (c b : ℕ) (flip : Bool) (x y s : ℤ) (some : 1 ≤ c) (less : b ≤ c) (reach : Reached 6 x y) (one : natAbs s ≡ 1) (at : (natAbs x ≡ 3) ⊎ (10 ≤ natAbs x)) where
   end-by : Deltas c b → Sighted c b x y s (marched c b flip 6 .left) → Sighted c b (negℤ x) (negℤ y) (negℤ s) (marched c b flip 6 .right) → ⊥
-  end-by d h k = ends-apart (d .over) (d .more) flip x y s disc one (d .long) at (rw (d .larger-is, d .smaller-is) at h) (rw (d .larger-is, d .smaller-is) at k)
+  end-by d h k = ends-apart (d .over) (d .more) flip x y s reach one (d .long) at (rw (d .larger-is, d .smaller-is) at h) (rw (d .larger-is, d .smaller-is) at k)
 
   end-never : Lengthy c b (marched c b flip 6 .left) → Lengthy c b (marched c b flip 6 .right) → Sighted c b x y s (marched c b flip 6 .left) → Sighted c b (negℤ x) (negℤ y) (negℤ s) (marched c b flip 6 .right) → ⊥
   end-never p q (normal t h) (normal u k) = both-no c b 6 flip x y some less (omega arith) h k
@@ -157,9 +149,9 @@ module _ (c b : ℕ) (flip : Bool) (x y s : ℤ) (some : 1 ≤ c) (less : b ≤ 
   end-never p q (extra t h) k = end-by (deltas less (p t)) (extra t h) k
 
 -- the same of a width that is 6
-end-by-six : {w : ℕ} → w ≡ 6 → (c b : ℕ) (flip : Bool) (x y s : ℤ) → 1 ≤ c → b ≤ c → natAbs x * natAbs x + natAbs y * natAbs y ≤ 2 * w * (2 * w) → natAbs s ≡ 1 → (natAbs x ≡ 3) ⊎ (10 ≤ natAbs x)
+end-by-six : {w : ℕ} → w ≡ 6 → (c b : ℕ) (flip : Bool) (x y s : ℤ) → 1 ≤ c → b ≤ c → Reached w x y → natAbs s ≡ 1 → (natAbs x ≡ 3) ⊎ (10 ≤ natAbs x)
     → Lengthy c b (marched c b flip w .left) → Lengthy c b (marched c b flip w .right) → Sighted c b x y s (marched c b flip w .left) → Sighted c b (negℤ x) (negℤ y) (negℤ s) (marched c b flip w .right) → ⊥
-end-by-six is c b flip x y s some less disc one at p q h k = end-never c b flip x y s some less (rw is at disc) one at (rw is at p) (rw is at q) (rw is at h) (rw is at k)
+end-by-six is c b flip x y s some less reach one at p q h k = end-never c b flip x y s some less (rw is at reach) one at (rw is at p) (rw is at q) (rw is at h) (rw is at k)
 
 -- ---- the leg that is excepted
 
@@ -168,8 +160,8 @@ excepted-at c b w flip x y is h k = excepted-start x y (rw (is .0, is .1 .0, is 
 
 -- ---- the same squares, whichever leg's axes they are counted along
 
-disc-by : (m n k : ℕ) (v : Point) → Sizes m n v → natAbs (v .x) * natAbs (v .x) + natAbs (v .y) * natAbs (v .y) ≤ k → m * m + n * n ≤ k
-disc-by m n k v is h = ⊎-elim (λ e. rw (e .0, e .1) h) (λ e. rw (e .0, e .1) (omega arith)) is
+reach-by : (m n k : ℕ) (v : Point) → Sizes m n v → natAbs (v .x) * natAbs (v .x) + natAbs (v .y) * natAbs (v .y) ≤ k → m * m + n * n ≤ k
+reach-by m n k v is h = ⊎-elim (λ e. rw (e .0, e .1) h) (λ e. rw (e .0, e .1) (omega arith)) is
 
 spot-by : (m n p q : ℕ) (v : Point) → Sizes m n v → Sizes p q v → m ≡ 3 → 10 ≤ n → (p ≡ 3) ⊎ (10 ≤ p)
 spot-by m n p q v (inl e) (inl f) three ten = inl (omega (arith, e .0, f .0))
@@ -180,7 +172,7 @@ spot-by m n p q v (inr e) (inr f) three ten = inl (omega (arith, e .0, f .0))
 -- ---- all four edges of a bend
 
 module _ {p q r : Point} {w : ℕ} (first-fits : Fits (lineOf p q) w) (second-fits : Fits (lineOf q r) w) (three : 3 ≤ w) (most : w ≤ 64) {z : Point}
-    (disc : natAbs (minus z q .x) * natAbs (minus z q .x) + natAbs (minus z q .y) * natAbs (minus z q .y) ≤ 2 * w * (2 * w))
+    (reach : Reached w (minus z q .x) (minus z q .y))
     (before : (side : Side) → Touches (edge (lineOf p q) w side) z × Solid (lineOf p q) w side)
     (after : (side : Side) → Touches (edge (lineOf q r) w side) z × Solid (lineOf q r) w side) where
   abbrev first : Line
@@ -202,8 +194,8 @@ module _ {p q r : Point} {w : ℕ} (first-fits : Fits (lineOf p q) w) (second-fi
   abbrev y : Line → ℤ
   y j = aside j Left z q
 
-  disc-of : (j : Line) → natAbs (x j) * natAbs (x j) + natAbs (y j) * natAbs (y j) ≤ 2 * w * (2 * w)
-  disc-of j = disc-by (natAbs (x j)) (natAbs (y j)) (2 * w * (2 * w)) (minus z q) (sizes (aimed j) (minus z q)) disc
+  reach-of : (j : Line) → Reached w (x j) (y j)
+  reach-of j = reach-by (natAbs (x j)) (natAbs (y j)) (2 * w * (2 * w)) (minus z q) (sizes (aimed j) (minus z q)) reach
 
   second-sees : (side : Side) → Sighted (larger second) (smaller second) (along second side z q) (aside second side z q) (pos 0) (markAt second w side)
   second-sees side = seen-start second-fits one-wide side (after side .1 .aim) (after side .0)
@@ -216,10 +208,10 @@ module _ {p q r : Point} {w : ℕ} (first-fits : Fits (lineOf p q) w) (second-fi
   excepted-second is =
       let spot = excepted-at (larger second) (smaller second) w (flip second w) (x second) (y second) is (second-sees Left) (second-sees Right) in
       let at = spot-by (natAbs (x second)) (natAbs (y second)) (natAbs (x first)) (natAbs (y first)) (minus z q) (sizes (aimed second) (minus z q)) (sizes (aimed first) (minus z q)) (spot .three) (spot .ten) in
-      end-by-six (is .1 .1 .0) (larger first) (smaller first) (flip first w) (x first) (y first) (step first Left) (some first-fits) (less first) (disc-of first) (one-step (aimed first)) at
+      end-by-six (is .1 .1 .0) (larger first) (smaller first) (flip first w) (x first) (y first) (step first Left) (some first-fits) (less first) (reach-of first) (one-step (aimed first)) at
       (lengthy first-fits Left (before Left .1)) (lengthy first-fits Right (before Right .1)) (first-sees Left) (first-sees Right)
 
   pub four-apart : ⊥
   four-apart =
-      start-never (larger second) (smaller second) w (flip second w) (x second) (y second) (some second-fits) (less second) three most (disc-of second) excepted-second
+      start-never (larger second) (smaller second) w (flip second w) (x second) (y second) (some second-fits) (less second) three most (reach-of second) excepted-second
       (lengthy second-fits Left (after Left .1)) (lengthy second-fits Right (after Right .1)) (second-sees Left) (second-sees Right)

@@ -15,7 +15,7 @@ use Rattle.whole.proofs.Tests.{and-left, and-right}
 use Rattle.skeletons.specs.Treads.{markOf, trod, trodBy, stepped, march, marched}
 use Rattle.skeletons.proofs.Apart.{gapOf}
 use Rattle.skeletons.proofs.Distances.{Wide, Close, never-ended}
-use Rattle.skeletons.proofs.Sights.{Normal, Extra, Sighted, normal, extra}
+use Rattle.skeletons.proofs.Sights.{Reached, Normal, Extra, Sighted, normal, extra}
 use Rattle.skeletons.proofs.Small.{Test, passes, isExcepted, bothPass, pass-by, byGap}
 use Rattle.skeletons.proofs.Starts.{closes, Parted, none-together}
 use Rattle.skeletons.proofs.Together.{along-axis}
@@ -48,7 +48,7 @@ end-keep b c flip some small unless =
     pass-by (keepsEnd b c) b c 6 flip unless (rw none at (all-exactly _ (5 - b) .0 (all-exactly _ 5 .0 ends-kept b (omega arith)) c (omega arith)))
 
 -- a Normal edge and an Extra one
-module _ (b c n e p f : ℕ) (x y s : ℤ) (disc : natAbs x * natAbs x + natAbs y * natAbs y ≤ 144) (step : natAbs s ≡ 1) (h : Normal (b + c + 1) (b + 1) (x -ℤ pos n) (y -ℤ pos e)) (k : Extra (b + c + 1) (b + 1) (negℤ x -ℤ pos p +ℤ s) (negℤ y -ℤ pos f -ℤ s)) where
+module _ (b c n e p f : ℕ) (x y s : ℤ) (reach : Reached 6 x y) (step : natAbs s ≡ 1) (h : Normal (b + c + 1) (b + 1) (x -ℤ pos n) (y -ℤ pos e)) (k : Extra (b + c + 1) (b + 1) (negℤ x -ℤ pos p +ℤ s) (negℤ y -ℤ pos f -ℤ s)) where
   abbrev g : ℕ
   g = gapOf (b + c + 1) (b + 1) n e p f
 
@@ -71,7 +71,7 @@ excepted-end x y s step where-x (normal t h) (extra u k) =
 
 -- ---- both edges of the leg
 
-module _ (b c : ℕ) (flip : Bool) (x y s : ℤ) (disc : natAbs x * natAbs x + natAbs y * natAbs y ≤ 144) (step : natAbs s ≡ 1) (some : 1 ≤ b + c) where
+module _ (b c : ℕ) (flip : Bool) (x y s : ℤ) (reach : Reached 6 x y) (step : natAbs s ≡ 1) (some : 1 ≤ b + c) where
   abbrev six : 3 ≤ 6
   six = omega arith
 
@@ -80,7 +80,7 @@ module _ (b c : ℕ) (flip : Bool) (x y s : ℤ) (disc : natAbs x * natAbs x + n
     where
       parted : Parted b c 6 flip x y s
       parted n e p f u v t one u-is v-is t-is h k =
-          end-no b c n e p f u v t (rw (u-is, v-is) disc) (t-is ∙ step) h k (one .late) (one .wide) (λ small. one .passed (keepsEnd b c) (end-keep b c flip some small unless))
+          end-no b c n e p f u v t (rw (u-is, v-is) reach) (t-is ∙ step) h k (one .late) (one .wide) (λ small. one .passed (keepsEnd b c) (end-keep b c flip some small unless))
 
 pub excepted-is : (b c w : ℕ) → isExcepted b c w ≡ true → (b ≡ 0) × ((c ≡ 1) × (w ≡ 6))
 excepted-is b c w h =
@@ -95,11 +95,11 @@ pub excepted-right : marched 2 1 true 6 .right ≡ markOf 3 1 true
 unfolding marched march stepped trod trodBy
 excepted-right = refl
 
-pub ends-apart : (b c : ℕ) (flip : Bool) (x y s : ℤ) → natAbs x * natAbs x + natAbs y * natAbs y ≤ 144 → natAbs s ≡ 1 → 1 ≤ b + c → (natAbs x ≡ 3) ⊎ (10 ≤ natAbs x)
+pub ends-apart : (b c : ℕ) (flip : Bool) (x y s : ℤ) → Reached 6 x y → natAbs s ≡ 1 → 1 ≤ b + c → (natAbs x ≡ 3) ⊎ (10 ≤ natAbs x)
     → Sighted (b + c + 1) (b + 1) x y s (marched (b + c + 1) (b + 1) flip 6 .left) → Sighted (b + c + 1) (b + 1) (negℤ x) (negℤ y) (negℤ s) (marched (b + c + 1) (b + 1) flip 6 .right) → ⊥
-ends-apart b c flip x y s disc step some where-x h k = by flip (isExcepted b c 6) refl refl
+ends-apart b c flip x y s reach step some where-x h k = by flip (isExcepted b c 6) refl refl
   where
     by : (u v : Bool) → flip ≡ u → isExcepted b c 6 ≡ v → ⊥
-    by false v e o = ends-by b c flip x y s disc step some (λ t. absurd (false≢true (sym e ∙ t))) h k
-    by true false e o = ends-by b c flip x y s disc step some (λ t. o) h k
+    by false v e o = ends-by b c flip x y s reach step some (λ t. absurd (false≢true (sym e ∙ t))) h k
+    by true false e o = ends-by b c flip x y s reach step some (λ t. o) h k
     by true true e o = let is = excepted-is b c 6 o in excepted-end x y s step where-x (rw (is .0, is .1 .0, e, excepted-left) at h) (rw (is .0, is .1 .0, e, excepted-right) at k)

@@ -8,6 +8,7 @@ pub mod Firsts
 pub mod Frames
 pub mod Legs
 pub mod Marches
+pub mod Outward
 pub mod Sights
 pub mod Skeletons
 pub mod Small

@@ -28,7 +28,8 @@ use Rattle.extents.specs.declared.Ends.{Ends}
 use Rattle.extents.specs.Edges.{placed, seen, lasts, freshEnds}
 use Rattle.skeletons.specs.Treads.{Mark, March, Arrived, treadOf, trod, trodBy, stepped, arrivedAt, march, setOut, mostOf, marched}
 use Rattle.skeletons.proofs.Legs.{measured, thickness-is, begins-with}
-use Rattle.skeletons.proofs.Strides.{Measured, outward, upward, Strode, Stands, trodden}
+use Rattle.skeletons.proofs.Outward.{none-outward}
+use Rattle.skeletons.proofs.Strides.{Measured, upward, Strode, Stands, trodden}
 
 abbrev pub edgeAt : Side → Ends → Edge
 edgeAt Left s = s .left
@@ -142,10 +143,6 @@ module _ {plan : Plan} {a b : ℕ} (m : Measured plan a b) (both : plan .offset 
 pub still : (u o : Point) → dotProduct u (minus o o) ≡ pos 0
 unfolding dotProduct minus
 still u o = ring 4 (λ x y v w. x ⊗ (v ⊖ v) ⊕ y ⊗ (w ⊖ w) ≈ con (pos 0)) refl (u .x) (u .y) (o .x) (o .y)
-
-none-outward : (side : Side) (z : ℤ) → z ≡ pos 0 → outward side z ≡ pos 0
-none-outward Left z e = e
-none-outward Right z e = rw e
 
 none-upward : (falling : Bool) → upward falling (pos 0) ≡ pos 0
 none-upward true = refl

@@ -24,7 +24,11 @@ use Rattle.skeletons.specs.Treads.{Mark}
 use Rattle.skeletons.proofs.Cells.{Touches}
 use Rattle.skeletons.proofs.Frames.{major, minor, reduce, across-delta, across-reduce, across-cut, size-is, cut-size}
 use Rattle.skeletons.proofs.Marches.{Marked}
-use Rattle.skeletons.proofs.Strides.{outward}
+use Rattle.skeletons.proofs.Outward.{outward, outward-less, outward-plus, outward-back}
+
+-- so many steps away is within the reach of a miter at width w
+abbrev pub Reached : ℕ → ℤ → ℤ → Type 0
+Reached w x y = natAbs x * natAbs x + natAbs y * natAbs y ≤ 2 * w * (2 * w)
 
 -- x steps along the major axis and y along the minor one from a Normal edge, and from an Extra one: the square is not beyond it
 pub record Normal (a b : ℕ) (x y : ℤ) : Type 0 where
@@ -130,22 +134,6 @@ pub data Sighted (a b : ℕ) (x y s : ℤ) (m : Mark) : Type 0 where
   extra : m .extra ≡ true → Extra a b (x -ℤ pos (m .n) +ℤ s) (y -ℤ pos (m .e) -ℤ s) → Sighted a b x y s m
 
 -- on the left, and turned round on the right
-outward-less : (side : Side) (x p : ℤ) {n : ℕ} → outward side p ≡ pos n → outward side (x -ℤ p) ≡ outward side x -ℤ pos n
-outward-less Left x p e = rw e
-outward-less Right x p e = ring 2 (λ x p. neg (x ⊖ p) ≈ neg x ⊖ neg p) refl x p ∙ ap (λ q. negℤ x -ℤ q) e
-
-outward-plus : (side : Side) (x s : ℤ) → outward side (x +ℤ s) ≡ outward side x +ℤ outward side s
-outward-plus Left x s = refl
-outward-plus Right x s = ring 2 (λ x s. neg (x ⊕ s) ≈ neg x ⊕ neg s) refl x s
-
-pub outward-minus : (side : Side) (x s : ℤ) → outward side (x -ℤ s) ≡ outward side x -ℤ outward side s
-outward-minus Left x s = refl
-outward-minus Right x s = ring 2 (λ x s. neg (x ⊖ s) ≈ neg x ⊖ neg s) refl x s
-
-pub outward-back : (side : Side) (s : ℤ) → outward side (negℤ s) ≡ negℤ (outward side s)
-outward-back Left s = refl
-outward-back Right s = refl
-
 normal-outward : {a b : ℕ} {x y : ℤ} (side : Side) → Normal a b x y → Normal a b (outward side x) (outward side y)
 normal-outward Left h = h
 normal-outward Right h = normal-turned h

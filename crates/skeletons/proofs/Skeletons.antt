@@ -2,9 +2,9 @@
 use mathlib.Core.Path.{_≡_, refl, sym, ap, subst, _∙_}
 use mathlib.Core.Logic.{⊎-elim}
 use mathlib.Core.Bool.{true}
-use Prim.Native.Nat.{ℕ, _+_, _*_, _≤_}
+use Prim.Native.Nat.{ℕ, _+_, _≤_}
 use native.Mathlib.Omega.{arith}
-use lib.IntN.{pos, natAbs, _+ℤ_, _-ℤ_}
+use lib.IntN.{pos, _+ℤ_, _-ℤ_}
 use Rattle.whole.proofs.Linear.{linear, sum, diff, opp, le-or-lt}
 use Rattle.whole.proofs.Steps.{square-is}
 use Rattle.shapes.specs.declared.Point.{Point}
@@ -23,6 +23,7 @@ use Rattle.skeletons.proofs.Cells.{Touches, drawn-end}
 use Rattle.skeletons.proofs.Corners.{Apart, Corner, ended, drawn, before, after, join-apart}
 use Rattle.skeletons.proofs.Frames.{major, minor}
 use Rattle.skeletons.proofs.Marches.{still}
+use Rattle.skeletons.proofs.Sights.{Reached}
 use Rattle.skeletons.proofs.Strokes.{Fits, counts, markAt, edge, step, off, along, aside, Solid, starts-at, ends-at, bare-edge}
 use Rattle.skeletons.proofs.Two.{two-beside, two-never}
 
@@ -35,11 +36,10 @@ module _ {p q r : Point} {w : ℕ} (first : Fits (lineOf p q) w) (second : Fits 
   wide : 1 ≤ w
   wide = omega arith
 
-  -- within the miter's reach
-  abbrev Reached : Point → Type 0
-  Reached z = natAbs (minus z q .x) * natAbs (minus z q .x) + natAbs (minus z q .y) * natAbs (minus z q .y) ≤ 2 * w * (2 * w)
+  abbrev Near : Point → Type 0
+  Near z = Reached w (minus z q .x) (minus z q .y)
 
-  reached : (z : Point) → reaches q z (pos w) ≡ true → Reached z
+  reached : (z : Point) → reaches q z (pos w) ≡ true → Near z
   unfolding squaredLength dotProduct miterLimit
   reached z t = let h = rw (square-is (minus z q .x), square-is (minus z q .y)) at (reaches-exactly q z (pos w) .0 t) in omega (linear, h)
 
@@ -52,7 +52,7 @@ module _ {p q r : Point} {w : ℕ} (first : Fits (lineOf p q) w) (second : Fits 
   right-ended (ended e) f = ends-differ first three (sym e ∙ f)
   right-ended (drawn d) f = let b = before first second wide Left d in one-end first three Right (rw f at (b .0)) (b .1)
 
-  both-corners : {z : Point} → Reached z → On Left z → On Right z → ⊥
+  both-corners : {z : Point} → Near z → On Left z → On Right z → ⊥
   both-corners near (ended e) k = left-ended e k
   both-corners near (drawn d) (ended f) = right-ended (drawn d) f
   both-corners {z} near (drawn d) (drawn e) = four-apart first second three most near by on

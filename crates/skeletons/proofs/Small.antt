@@ -12,8 +12,7 @@ use Rattle.whole.proofs.Tests.{and-left, and-right}
 use Rattle.skeletons.specs.Treads.{Mark, Arrived, trod, trodBy, stepped, march, marched}
 use Rattle.skeletons.proofs.Apart.{gapOf}
 
--- a Normal edge is n and e steps out on the one side, an Extra one p and f on the other; the deltas are b + c + 1 and b + 1
--- of a Normal edge n and e steps out on the one side, and an Extra one p and f on the other
+-- a test of a Normal edge n and e steps out on the one side, and an Extra one p and f on the other
 abbrev pub Test : Type 0
 Test = ℕ → ℕ → ℕ → ℕ → Bool
 

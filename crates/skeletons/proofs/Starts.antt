@@ -16,7 +16,7 @@ use Rattle.whole.proofs.Tests.{and-left, and-right}
 use Rattle.skeletons.specs.Treads.{Arrived, mostOf, marched}
 use Rattle.skeletons.proofs.Apart.{PaidFor, gapOf, gap, paid-for, gap-wide, two-steps}
 use Rattle.skeletons.proofs.Distances.{Wide, Close, never-long, never-wide, wide-of, late-of, extra-wide}
-use Rattle.skeletons.proofs.Sights.{Normal, Extra, Sighted, normal, extra}
+use Rattle.skeletons.proofs.Sights.{Reached, Normal, Extra, Sighted, normal, extra}
 use Rattle.skeletons.proofs.Small.{Test, passes, byGap, byAxis, keeps, isExcepted, few-keep, many-keep}
 use Rattle.skeletons.proofs.Together.{both-normal, both-extra, one-extra, along-axis}
 
@@ -34,7 +34,7 @@ module _ (b c w n e p f : ℕ) (x y : ℤ) where
       let end : natAbs (y +ℤ pos f +ℤ s) ≤ 2 * w + f + natAbs s = omega (arith, abs-add (y +ℤ pos f) s, abs-add y (pos f)) in
       omega (arith, one-extra b c n e p f x y s h k, mul-le-mul-left (2 * (b + c)) gap, mul-le-mul-left (2 * c) end)
 
-  module _ (disc : natAbs x * natAbs x + natAbs y * natAbs y ≤ 2 * w * (2 * w)) (some : 1 ≤ b + c) (h : Normal (b + c + 1) (b + 1) (x -ℤ pos n) (y -ℤ pos e)) (k : Extra (b + c + 1) (b + 1) (negℤ x -ℤ pos p +ℤ pos 0) (negℤ y -ℤ pos f -ℤ pos 0)) where
+  module _ (reach : Reached w x y) (some : 1 ≤ b + c) (h : Normal (b + c + 1) (b + 1) (x -ℤ pos n) (y -ℤ pos e)) (k : Extra (b + c + 1) (b + 1) (negℤ x -ℤ pos p +ℤ pos 0) (negℤ y -ℤ pos f -ℤ pos 0)) where
     close-start : Close b c w 0 g f
     close-start = omega (arith, closes (pos 0) (square-le (natAbs y) (2 * w) (omega arith)) h k)
 
@@ -124,7 +124,7 @@ module _ (b c w : ℕ) (flip : Bool) where
           passed = λ test h. rw (l, r) at h;
         }
 
-    -- so no two do
+    -- so no two edges do
     module _ (x y s : ℤ) (some : 1 ≤ b + c) where
       pub none-together : Parted x y s → Sighted (b + c + 1) (b + 1) x y s (last .left) → Sighted (b + c + 1) (b + 1) (negℤ x) (negℤ y) (negℤ s) (last .right) → ⊥
       none-together parted (normal l h) (normal r k) = omega (arith, gap-more, both-normal (b + c + 1) (b + 1) (last .left .n) (last .left .e) (last .right .n) (last .right .e) x y h k)
@@ -134,11 +134,11 @@ module _ (b c w : ℕ) (flip : Bool) where
           extra-wide b c (last .left .n + last .right .n) (last .left .e + last .right .e) some steps-more (omega (arith, gap-more))
           (omega (arith, both-extra (b + c + 1) (b + 1) (last .left .n) (last .left .e) (last .right .n) (last .right .e) x y s h k))
 
-    module _ (most : w ≤ 64) (x y : ℤ) (disc : natAbs x * natAbs x + natAbs y * natAbs y ≤ 2 * w * (2 * w)) (some : 1 ≤ b + c) (unless : flip ≡ true → isExcepted b c w ≡ false) where
+    module _ (most : w ≤ 64) (x y : ℤ) (reach : Reached w x y) (some : 1 ≤ b + c) (unless : flip ≡ true → isExcepted b c w ≡ false) where
       start-parted : Parted x y (pos 0)
       start-parted n e p f u v t one u-is v-is t-is h k =
           let none : t ≡ pos 0 = omega (linear, t-is, abs-parts t) in
-          start-no b c w n e p f u v (rw (u-is, v-is) disc) some h (rw none at k) three (one .late) (one .wide)
+          start-no b c w n e p f u v (rw (u-is, v-is) reach) some h (rw none at k) three (one .late) (one .wide)
           (λ small ten. one .passed (keeps b c w) (few-keep b c w flip some small three ten unless))
           (λ zero one-more eleven. one .passed (keeps b c w) (many-keep b c w flip zero one-more eleven most))
 

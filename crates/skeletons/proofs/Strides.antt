@@ -23,6 +23,7 @@ use Rattle.parallels.specs.declared.Taken.{Taken}
 use Rattle.parallels.specs.Parallels.{across, due, falls, bent, normalTurn, extraTurn, turnOf, nextParallel, Sound, Steady}
 use Rattle.parallels.proofs.Steps.{turned}
 use Rattle.skeletons.specs.Treads.{Tread, Trod, treadOf, dueAt, keptAt, trodBy, trod}
+use Rattle.skeletons.proofs.Outward.{outward}
 
 -- ---- a plan by its numbers: a and b, and steps across of one pixel along the axes
 
@@ -41,11 +42,6 @@ pub record Measured (plan : Plan) (a b : ℕ) : Type 0 where
   pub across-is : Gauged (plan .perpendicular) a b
   pub along-is : Gauged (plan .parallel) a b
   pub steps : Unit (plan .perpendicular)
-
--- away from the line on the left, and on the right
-abbrev pub outward : Side → ℤ → ℤ
-outward Left z = z
-outward Right z = negℤ z
 
 -- a falling error, turned round
 abbrev pub upward : Bool → ℤ → ℤ

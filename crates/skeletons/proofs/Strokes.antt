@@ -5,7 +5,6 @@ use mathlib.Core.Bool.{Bool, true, false}
 use Prim.Native.Nat.{ℕ, _+_, _≤_}
 use native.Mathlib.Omega.{arith}
 use lib.IntN.{ℤ, pos, natAbs, negℤ, _+ℤ_, _-ℤ_, +ℤ-idr, negℤ-negℤ}
-use Rattle.whole.proofs.Bounds.{abs-neg}
 use Rattle.whole.proofs.Linear.{linear, diff, abs-parts, le-or-lt}
 use Rattle.shapes.specs.declared.Point.{Point}
 use Rattle.shapes.specs.declared.Line.{Line}
@@ -29,8 +28,8 @@ use Rattle.skeletons.proofs.Cells.{Touches}
 use Rattle.skeletons.proofs.Frames.{major, minor, reduce, cut-size, sizes}
 use Rattle.skeletons.proofs.Legs.{measured}
 use Rattle.skeletons.proofs.Marches.{edgeAt, Marked, larger, smaller, edges-marched}
-use Rattle.skeletons.proofs.Sights.{Sighted, sighted-start, sighted-end, closed-normal, closed-extra, to-whole, to-cut, outward-minus, outward-back, opposite-steps}
-use Rattle.skeletons.proofs.Strides.{outward}
+use Rattle.skeletons.proofs.Outward.{outward, outward-minus, outward-back, none-out}
+use Rattle.skeletons.proofs.Sights.{Sighted, sighted-start, sighted-end, closed-normal, closed-extra, to-whole, to-cut, opposite-steps}
 
 abbrev edgeOn : Side → Edges → Line
 edgeOn Left e = e .left
@@ -111,10 +110,6 @@ still-delta l same =
     (omega (linear, diff (l .end .x) (l .start .x), ap (λ p. p .x) is), omega (linear, diff (l .end .y) (l .start .y), ap (λ p. p .y) is))
 
 -- ---- a point that is no steps away
-
-none-out : (side : Side) (z : ℤ) → outward side z ≡ pos 0 → natAbs z ≡ 0
-none-out Left z e = ap natAbs e
-none-out Right z e = sym (abs-neg z) ∙ ap natAbs e
 
 same-by : (p o : Point) → natAbs (minus p o .x) ≡ 0 → natAbs (minus p o .y) ≡ 0 → p ≡ o
 unfolding minus
