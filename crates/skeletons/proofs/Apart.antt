@@ -39,8 +39,8 @@ module _ (a b : ℕ) where
     grows : 1 ≤ price a b (r .mark .extra)
 
   due-late : (side : Side) (n e : ℕ) → dueAt a b side n e ≡ true → 2 * a * e + a ≤ 2 * b * n
-  due-late Left n e h = omega (arith, ltb-true (2 * a * e + a) (2 * b * n) h)
-  due-late Right n e h = leb-true (2 * a * e + a) (2 * b * n) h
+  due-late Left n e h = omega (arith, ltb-true)
+  due-late Right n e h = omega (arith, leb-true)
 
   -- an Extra point is due only where the smaller delta is not 0
   pub some-short : (n e : ℕ) → 1 ≤ a → 2 * a * e + a ≤ 2 * b * n → 1 ≤ b
