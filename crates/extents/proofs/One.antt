@@ -1,33 +1,31 @@
 -- A stroke of width 1 is the line itself: of its parallels the first is the line, and no second follows. Assumes nothing.
 use mathlib.Core.Path.{_≡_, refl, sym, ap, _∙_}
-use mathlib.Core.Bool.{Bool, true, false, cond}
+use mathlib.Core.Bool.{true, false}
 use Prim.Native.Nat.{ℕ, _+_, _*_, _≤_, _<_}
 use native.Mathlib.Nat.{mul-le-mul}
 use native.Mathlib.Omega.{arith}
 use borrow.Author.Tests.{le-ltb, lt-ltb}
 use lib.Dec.{lit≤}
-use lib.IntN.{ℤ, pos, natAbs, _+ℤ_, _*ℤ_}
-use lib.Signed.{quotZ}
-use Rattle.whole.proofs.Linear.{linear, opp}
-use Rattle.whole.proofs.Orders.{ordered}
-use Rattle.whole.proofs.Steps.{square-is}
+use lib.IntN.{ℤ, pos, _+ℤ_, _*ℤ_}
+use Rattle.whole.proofs.Linear.{linear}
+use Rattle.whole.proofs.Squares.{two-squares}
 use Rattle.shapes.specs.declared.Point.{Point}
 use Rattle.shapes.specs.declared.Line.{Line}
 use Rattle.shapes.specs.declared.Side.{Side}
 use Rattle.shapes.specs.declared.Side.the-variants.{Left, Right}
 use Rattle.shapes.specs.declared.Offset.{Offset}
 use Rattle.shapes.specs.Limits.{lineLimit, thickLimit}
-use Rattle.shapes.specs.Shape.{LineNear, squaredLength, dotProduct}
-use Rattle.bresenham.specs.Walk.{along, parametersAlong, nextAll, previousAll}
-use Rattle.bresenham.proofs.Laws.{isSteep, longer, shorter, sides, parameters-are}
+use Rattle.shapes.specs.Shape.{LineNear}
+use Rattle.bresenham.specs.Walk.{along, nextAll, previousAll}
+use Rattle.bresenham.proofs.Laws.{longer, shorter, sides, parameters-are}
 use Rattle.parallels.specs.declared.Plan.{Plan}
 use Rattle.parallels.specs.declared.Parallels.{Parallels}
 use Rattle.parallels.specs.declared.Parallel.{Parallel}
-use Rattle.parallels.specs.declared.Flank.{Flank}
 use Rattle.parallels.specs.declared.Taken.{Taken}
 use Rattle.parallels.specs.declared.Yielded.{Yielded}
-use Rattle.parallels.specs.Parallels.{due, firstSide, flankAt, sided, freshFlank, turnOf, nextParallel, aimed, thickness, planAlong, planOf, parallelsStart, isDone, grown, yieldOf, parallelsOf, Sound, Begun}
-use Rattle.parallels.proofs.Plans.{sound-plan}
+use Rattle.parallels.specs.Parallels.{due, firstSide, flankAt, freshFlank, turnOf, nextParallel, aimed, planAlong, planOf, parallelsStart, isDone, grown, yieldOf, parallelsOf, Sound, Begun}
+use Rattle.parallels.proofs.Laws.{this-flank}
+use Rattle.parallels.proofs.Plans.{fresh-due, thickness-of, begins-with, sound-plan}
 use Rattle.parallels.proofs.Room.{begun-start}
 use Rattle.extents.specs.Edges.{placed, seen, lasts, freshEdge, freshEnds, extentsOf}
 use Rattle.extents.proofs.Laws.{closed-fresh, lasts-end, lasts-turn}
@@ -35,31 +33,11 @@ use Rattle.extents.proofs.Laws.{closed-fresh, lasts-end, lasts-turn}
 -- ---- what the first two tests compare, a and b being the larger and the smaller delta
 
 module _ (a b : ℕ) (less : b ≤ a) where
-  ab : a * b ≤ a * a
-  ab = mul-le-mul {n₁ = a} {m₁ = b} {n₂ = a} {m₂ = a} (omega arith) less
-
-  bb : b * b ≤ a * b
-  bb = mul-le-mul {n₁ = b} {m₁ = b} {n₂ = a} {m₂ = b} less (omega arith)
-
   one-follows : (a + b) * (a + b) ≤ 4 * (a * a + b * b)
-  one-follows = omega (arith, ab)
+  one-follows = omega (arith, two-squares a b)
 
   none-follows : 1 ≤ a → 4 * (a * a + b * b) < (a + b + 2 * a) * (a + b + 2 * a)
-  none-follows some = omega (arith, bb, mul-le-mul {n₁ = 1} {m₁ = 1} {n₂ = a} {m₂ = a} some some)
-
--- ---- the numbers of the plan
-
-squares-by : (t : Bool) (m n : ℕ) → m * m + n * n ≡ cond t n m * cond t n m + cond t m n * cond t m n
-squares-by true m n = omega arith
-squares-by false m n = refl
-
-thickness-one : (d : Point) → thickness (pos 1) d ≡ pos (4 * (longer d * longer d + shorter d * shorter d))
-unfolding thickness squaredLength dotProduct
-thickness-one d = rw (square-is (d .x), square-is (d .y)) (ap (λ n. pos (4 * n)) (squares-by (isSteep d) (natAbs (d .x)) (natAbs (d .y))))
-
-begins-with : (d : Point) → quotZ (parametersAlong d .loss +ℤ parametersAlong d .gain) (pos 2) ≡ pos (longer d + shorter d)
-unfolding along
-begins-with d = rw (parameters-are d) (ap pos (omega arith))
+  none-follows some = omega (arith, mul-le-mul {n₁ = b} {m₁ = b} {n₂ = a} {m₂ = b} less (omega arith), mul-le-mul {n₁ = 1} {m₁ = 1} {n₂ = a} {m₂ = a} some some)
 
 -- ---- the first parallel is the line itself
 
@@ -73,17 +51,13 @@ unfolding nextParallel turnOf nextAll previousAll
 fresh-taken plan p Left e = rw e (record { at-start = refl; normal = refl })
 fresh-taken plan p Right e = rw e (record { at-start = refl; normal = refl })
 
-first-flank : (side next : Side) (this other : Flank) (acc : ℤ) → flankAt side (sided side this other acc next) ≡ this
-first-flank Left next this other acc = refl
-first-flank Right next this other acc = refl
-
 module _ (plan : Plan) (p : Point) (none : (side : Side) → due (plan .perpendicular) side (pos 0) ≡ false) where
   abbrev start : Parallels
   start = parallelsStart plan p
 
   first-is : flankAt (start .side) start ≡ freshFlank p
   unfolding parallelsStart
-  first-is = first-flank (firstSide (plan .offset)) _ (freshFlank p) _ _
+  first-is = this-flank (firstSide (plan .offset)) _ (freshFlank p) _ _
 
   first-taken : Fresh p (nextParallel plan (start .side) (flankAt (start .side) start))
   first-taken = rw first-is (fresh-taken plan p (start .side) (none (start .side)))
@@ -116,8 +90,7 @@ module _ (l : Line) (offset : Offset) (near : LineNear lineLimit l) where
   begun = begun-start sound (near .start-near)
 
   none-due : (side : Side) → due (plan .perpendicular) side (pos 0) ≡ false
-  none-due Left = omega (ordered, sound .across-fair .some)
-  none-due Right = omega (ordered, sound .across-fair .some, opp (plan .perpendicular .threshold))
+  none-due = fresh-due thickLimit plan sound (l .start)
 
   -- the larger delta is at least 1, and the accumulator grows by twice of it
   some : 1 ≤ longer d
@@ -134,7 +107,7 @@ module _ (l : Line) (offset : Offset) (near : LineNear lineLimit l) where
 
   thick : plan .threshold ≡ pos (4 * (longer d * longer d + shorter d * shorter d))
   unfolding planOf planAlong
-  thick = thickness-one d
+  thick = thickness-of 1 d
 
   first-follows : isDone plan (parallelsStart plan (l .start)) ≡ false
   unfolding isDone

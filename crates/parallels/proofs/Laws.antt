@@ -79,6 +79,15 @@ paid-took : {o : Point} {plan : Plan} {acc : ℤ} {side : Side} {f : Flank} {t :
 paid-took {plan} {acc} {t} v g p = record { steady = v .steady; far = p .far + cond (t .extra) 0 2; reach = v .reach (p .reach); paid = omega (arith, g .least, p .paid) }
 
 -- both sides of a state, by the one and the other
+-- the side that a state was made of, and the other one
+pub this-flank : (side next : Side) (this other : Flank) (acc : ℤ) → flankAt side (sided side this other acc next) ≡ this
+this-flank Left next this other acc = refl
+this-flank Right next this other acc = refl
+
+pub other-flank : (side next : Side) (this other : Flank) (acc : ℤ) → flankAt (swapped side) (sided side this other acc next) ≡ other
+other-flank Left next this other acc = refl
+other-flank Right next this other acc = refl
+
 pub sided-paid : {o : Point} {plan : Plan} {acc : ℤ} {this other : Flank} (side next : Side) → Paid o plan acc side this → Paid o plan acc (swapped side) other → (x : Side) → Paid o plan acc x (flankAt x (sided side this other acc next))
 sided-paid Left next p q Left = p
 sided-paid Left next p q Right = q

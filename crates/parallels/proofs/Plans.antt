@@ -1,5 +1,5 @@
 -- The plan of a line and the state before its first parallel, without the code: they are as the steps ask. Assumes nothing.
-use mathlib.Core.Path.{_≡_, refl}
+use mathlib.Core.Path.{_≡_, refl, ap, _∙_}
 use mathlib.Core.Logic.{⊎-elim}
 use mathlib.Core.Bool.{Bool, true, false, cond}
 use Prim.Native.Nat.{ℕ, _+_, _*_, _≤_, _<_}
@@ -22,7 +22,8 @@ use Rattle.shapes.specs.Limits.{lineLimit}
 use Rattle.shapes.specs.Shape.{pointOf, lineOf, Near, LineNear, plus, minus, delta, perpendicular, squaredLength, dotProduct, samePoint}
 use Rattle.shapes.proofs.Laws.{near-delta}
 use Rattle.bresenham.specs.Walk.{placeOf, parametersAlong}
-use Rattle.bresenham.proofs.Laws.{Larger, larger as larger-of}
+use Rattle.bresenham.specs.Walk as Walk
+use Rattle.bresenham.proofs.Laws.{isSteep, longer, shorter, parameters-are, Larger, larger as larger-of}
 use Rattle.parallels.specs.declared.Plan.{Plan}
 use Rattle.parallels.specs.declared.Flank.{Flank}
 use Rattle.parallels.specs.Parallels.{due, owed, swapped, firstSide, freshFlank, nextParallel, parallelsStart, aimed, turnedBack, thickness, planAlong, planOf, parallelsOf, deltaLimit, larger, Sound, Steady, Reach, Ready, Paid, Going}
@@ -43,7 +44,8 @@ module _ (w : ℕ) (plan : Plan) (h : Sound w plan) (p : Point) where
       let back = opp (plan .parallel .threshold) in
       record { ranged = record { above = omega linear; below = omega linear }; bounded = record { above = omega linear; below = omega linear } }
 
-  fresh-due : (side : Side) → due (plan .perpendicular) side (pos 0) ≡ false
+  -- no Extra step is due at the start
+  pub fresh-due : (side : Side) → due (plan .perpendicular) side (pos 0) ≡ false
   fresh-due Left = omega (ordered, h .across-fair)
   fresh-due Right = omega (ordered, h .across-fair, opp (plan .perpendicular .threshold))
 
@@ -99,6 +101,19 @@ module _ (w : ℕ) (plan : Plan) (h : Sound w plan) (p : Point) where
 thickness-is : (width : ℤ) (d : Point) → thickness width d ≡ pos (natAbs (pos 2 *ℤ width) * natAbs (pos 2 *ℤ width) * (natAbs (d .x) * natAbs (d .x) + natAbs (d .y) * natAbs (d .y)))
 unfolding thickness squaredLength dotProduct
 thickness-is width d = rw (square-is (pos 2 *ℤ width), square-is (d .x), square-is (d .y)) refl
+
+-- the same by the larger and the smaller delta, in which order they may be
+squares-by : (t : Bool) (m n : ℕ) → m * m + n * n ≡ cond t n m * cond t n m + cond t m n * cond t m n
+squares-by true m n = omega arith
+squares-by false m n = refl
+
+pub thickness-of : (w : ℕ) (d : Point) → thickness (pos w) d ≡ pos (2 * w * (2 * w) * (longer d * longer d + shorter d * shorter d))
+thickness-of w d = thickness-is (pos w) d ∙ ap (λ n. pos (2 * w * (2 * w) * n)) (squares-by (isSteep d) (natAbs (d .x)) (natAbs (d .y)))
+
+-- what the accumulator begins with
+pub begins-with : (d : Point) → quotZ (parametersAlong d .loss +ℤ parametersAlong d .gain) (pos 2) ≡ pos (longer d + shorter d)
+unfolding Walk.along
+begins-with d = rw (parameters-are d) (ap pos (omega arith))
 
 back-near : {k : ℕ} {d : Point} → Near k d → Near k (turnedBack d)
 back-near {k} {d} h = record { x-near = h .y-near; y-near = record { bound = rw (abs-neg (d .x)) (h .x-near .bound) } }

@@ -1,24 +1,22 @@
--- The plan of a line by numbers: the deltas a and b, the steps across, and what it begins with. Assumes nothing.
-use mathlib.Core.Path.{_≡_, refl, ap, _∙_}
+-- The plan of a line by numbers: the deltas a and b, and the steps across. Assumes nothing.
+use mathlib.Core.Path.{_≡_, refl, _∙_}
 use mathlib.Core.Bool.{Bool, true, false, cond}
-use Prim.Native.Nat.{ℕ, _+_, _*_}
+use Prim.Native.Nat.{ℕ}
 use native.Mathlib.Omega.{arith}
 use borrow.Author.Tests.{ltb-true, ltb-false}
 use lib.Dec.{ltb}
-use lib.IntN.{ℤ, pos, natAbs, _+ℤ_, _*ℤ_}
-use lib.Signed.{ltZ, quotZ}
+use lib.IntN.{ℤ, pos, natAbs, _*ℤ_}
+use lib.Signed.{ltZ}
 use Rattle.whole.proofs.Bounds.{abs-neg}
 use Rattle.whole.proofs.Ring.{con, _⊕_, _⊗_, _≈_, ring}
-use Rattle.whole.proofs.Steps.{square-is}
 use Rattle.whole.proofs.Tests.{either}
 use Rattle.shapes.specs.declared.Point.{Point}
 use Rattle.shapes.specs.declared.Offset.{Offset}
-use Rattle.shapes.specs.Shape.{pointOf, dotProduct, squaredLength}
+use Rattle.shapes.specs.Shape.{pointOf, dotProduct}
 use Rattle.bresenham.specs.Walk.{directionOf, parametersAlong}
 use Rattle.bresenham.specs.Walk as Walk
 use Rattle.bresenham.proofs.Laws.{across, down, isSteep, longer, shorter, parameters-are}
-use Rattle.parallels.specs.Parallels.{turnedBack, thickness, planAlong}
-use Rattle.skeletons.specs.Treads.{mostOf}
+use Rattle.parallels.specs.Parallels.{turnedBack, planAlong}
 use Rattle.skeletons.proofs.Strides.{Gauged, Unit, Measured}
 
 -- ---- directions are 1 or -1
@@ -81,15 +79,3 @@ back d = rw (abs-neg (d .x)) (back-by (natAbs (d .x)) (natAbs (d .y)) (isSteep d
 pub measured : (d : Point) (width : ℤ) (offset : Offset) → Measured (planAlong d width offset) (longer d) (shorter d)
 unfolding planAlong
 measured d width offset = record { across-is = rw (back d .0, back d .1) at (gauged (turnedBack d)); along-is = gauged d; steps = unit (turnedBack d) }
-
-squares-by : (t : Bool) (m n : ℕ) → m * m + n * n ≡ cond t n m * cond t n m + cond t m n * cond t m n
-squares-by true m n = omega arith
-squares-by false m n = refl
-
-pub thickness-is : (w : ℕ) (d : Point) → thickness (pos w) d ≡ pos (mostOf (longer d) (shorter d) w)
-unfolding thickness squaredLength dotProduct
-thickness-is w d = rw (square-is (d .x), square-is (d .y)) (ap (λ n. pos (2 * w * (2 * w) * n)) (squares-by (isSteep d) (natAbs (d .x)) (natAbs (d .y))))
-
-pub begins-with : (d : Point) → quotZ (parametersAlong d .loss +ℤ parametersAlong d .gain) (pos 2) ≡ pos (longer d + shorter d)
-unfolding Walk.along
-begins-with d = rw (parameters-are d) (ap pos (omega arith))

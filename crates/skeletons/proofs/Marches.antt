@@ -17,17 +17,16 @@ use Rattle.shapes.specs.Limits.{lineLimit, thickLimit}
 use Rattle.shapes.specs.Shape.{LineNear, minus, dotProduct}
 use Rattle.bresenham.proofs.Laws.{longer, shorter}
 use Rattle.parallels.specs.declared.Plan.{Plan}
-use Rattle.parallels.specs.declared.Flank.{Flank}
 use Rattle.parallels.specs.declared.Parallels.{Parallels}
 use Rattle.parallels.specs.declared.Taken.{Taken}
 use Rattle.parallels.specs.Parallels.{swapped, followed, flankAt, sided, falls, nextParallel, isDone, grown, yieldOf, parallelsFrom, freshFlank, parallelsStart, aimed, planAlong, planOf, parallelsOf, spare, parallels, Sound, Steady, Going}
-use Rattle.parallels.proofs.Laws.{going-next}
-use Rattle.parallels.proofs.Plans.{going-start, sound-plan, ready-fresh}
+use Rattle.parallels.proofs.Laws.{this-flank, other-flank, going-next}
+use Rattle.parallels.proofs.Plans.{thickness-of, begins-with, going-start, sound-plan, ready-fresh}
 use Rattle.extents.specs.declared.Edge.{Edge}
 use Rattle.extents.specs.declared.Ends.{Ends}
 use Rattle.extents.specs.Edges.{placed, seen, lasts, freshEnds}
 use Rattle.skeletons.specs.Treads.{Mark, March, Arrived, treadOf, trod, trodBy, stepped, arrivedAt, march, setOut, mostOf, marched}
-use Rattle.skeletons.proofs.Legs.{measured, thickness-is, begins-with}
+use Rattle.skeletons.proofs.Legs.{measured}
 use Rattle.skeletons.proofs.Outward.{none-outward}
 use Rattle.skeletons.proofs.Strides.{Measured, upward, Strode, Stands, trodden}
 
@@ -54,14 +53,6 @@ record Marches (plan : Plan) (a b : ℕ) (o : Point) (side : Side) (s : Parallel
   sum-is : s .accumulator ≡ pos (r .sum)
 
 -- ---- one parallel more
-
-this-flank : (side next : Side) (this other : Flank) (acc : ℤ) → flankAt side (sided side this other acc next) ≡ this
-this-flank Left next this other acc = refl
-this-flank Right next this other acc = refl
-
-other-flank : (side next : Side) (this other : Flank) (acc : ℤ) → flankAt (swapped side) (sided side this other acc next) ≡ other
-other-flank Left next this other acc = refl
-other-flank Right next this other acc = refl
 
 this-edge : (side : Side) (e : Edge) (s : Ends) → edgeAt side (placed side e s) ≡ e
 this-edge Left e s = refl
@@ -197,7 +188,7 @@ module _ (l : Line) (w : ℕ) (near : LineNear lineLimit l) (small : w ≤ thick
 
   limit : plan .threshold ≡ pos (mostOf a b w)
   unfolding planOf planAlong
-  limit = thickness-is w (aimed l)
+  limit = thickness-of w (aimed l)
 
   enough : spare plan (parallelsStart plan (l .start)) ≡ suc (mostOf a b w) - (a + b)
   unfolding spare

@@ -11,20 +11,16 @@ use lib.Signed.{ltZ, leZ}
 use Rattle.whole.specs.Number.{Within}
 use Rattle.whole.specs.Rounded.{rounded, half}
 use Rattle.whole.proofs.Linear.{linear, le-or-lt}
+use Rattle.whole.proofs.Steps.{square-is}
 use Rattle.whole.proofs.Tests.{le-iff}
 use Rattle.whole.proofs.Bounds.{within-add, within-sub, within-quot, within-more}
 
 -- ---- squares
 
--- a square is that of the absolute value
-pub square-abs : (x : ℤ) → x *ℤ x ≡ pos (natAbs x * natAbs x)
-square-abs (pos n) = refl
-square-abs (negsuc n) = refl
-
 -- the sum of two squares is beyond that of n where one of the two is beyond n: no square has to be taken to see it
 module _ (x y : ℤ) (n : ℕ) where
   beyond : n * n < natAbs x * natAbs x + natAbs y * natAbs y → leZ (x *ℤ x +ℤ y *ℤ y) (pos n *ℤ pos n) ≡ false
-  beyond h = rw (square-abs x, square-abs y) (lt-leb (natAbs x * natAbs x + natAbs y * natAbs y) (n * n) h)
+  beyond h = rw (square-is x, square-is y) (lt-leb (natAbs x * natAbs x + natAbs y * natAbs y) (n * n) h)
 
   pub squares-beyond-left : n < natAbs x → leZ (x *ℤ x +ℤ y *ℤ y) (pos n *ℤ pos n) ≡ false
   squares-beyond-left h = beyond (omega (arith, mul-le-mul h h))
