@@ -238,12 +238,14 @@ def extended_span(row, start, end, other_row, other_start, other_end):
 
 
 def route(width, count, coordinates, closed=False):
-    """The points of a route; the start of a walk refuses with 1 to 4."""
+    """The points of a route; the start of a walk refuses with 1 to 4, and with 12."""
     assert len(coordinates) == count
     refuse(1, count % 2 == 1)
     refuse(2, count > 2 * walks.MOST_POINTS or (closed and count == 2))
     refuse_stroke(width, coordinates)
-    return paired(coordinates)
+    points = paired(coordinates)
+    refuse(12, walks.is_doubled(points, closed))
+    return points
 
 
 def walk_words(found):

@@ -31,6 +31,15 @@ STARTS = [
     ("o 65 1 7 4 0 0 512 5", "3 0 0 | 3 0 0 None | 3 0 0 0 0 0"),
     ("o 65 1 4096 4 0 0 5 5", "3 0 0 | 3 0 0 None | 3 0 0 0 0 0"),
     ("o 3 1 4096 4 0 0 -512 5", "4 0 0 | 4 0 0 None | 4 0 0 0 0 0"),
+    ("o 3 1 7 4 5 5 5 5", "12 0 0 | 12 0 0 None | 12 0 0 0 0 0"),
+    ("o 3 1 7 6 0 0 5 5 0 0", "0 0 3 | 12 0 0 None | 0 0 3 7 0 0"),
+    ("o 3 1 7 6 0 5 5 5 5 0", "0 0 3 | 0 0 3 Left | 0 0 3 7 0 0"),
+    ("o 3 1 7 8 0 0 5 5 9 5 9 5", "12 0 0 | 12 0 0 None | 12 0 0 0 0 0"),
+    ("o 3 1 7 5 5 5 5 5 5", "1 0 0 | 1 0 0 None | 1 0 0 0 0 0"),
+    ("o 65 1 7 4 5 5 5 5", "3 0 0 | 3 0 0 None | 3 0 0 0 0 0"),
+    ("o 3 1 7 4 512 5 512 5", "4 0 0 | 4 0 0 None | 4 0 0 0 0 0"),
+    ("o 3 1 7 6 5 5 5 5 0 -512", "4 0 0 | 4 0 0 None | 4 0 0 0 0 0"),
+    ("o 3 1 4096 4 5 5 5 5", "12 0 0 | 12 0 0 None | 12 0 0 0 0 0"),
 ]
 
 # A walk at place 1 that has gathered 5 to 9: at the end, and past it where the list has fewer points, it hands that out; refused, it is
@@ -48,6 +57,10 @@ NEXT = [
     (f"v -1 0 4096 {MANY}", "2 false 0 0 0 | 1 -1 4096 5 9"),
     ("v 65 0 4096 4 0 0 512 5", "3 false 0 0 0 | 1 65 4096 5 9"),
     ("v 3 0 -4096 4 0 512 5 5", "4 false 0 0 0 | 1 3 -4096 5 9"),
+    ("v 3 0 7 4 5 5 5 5", "12 false 0 0 0 | 1 3 7 5 9"),
+    ("v 65 0 7 4 5 5 5 5", "3 false 0 0 0 | 1 65 7 5 9"),
+    ("v 3 0 7 4 512 5 512 5", "4 false 0 0 0 | 1 3 7 5 9"),
+    ("v 3 0 4096 4 5 5 5 5", "12 false 0 0 0 | 1 3 4096 5 9"),
 ]
 
 # Handed out and what is left; an empty span stays, whatever its columns are.
@@ -92,7 +105,8 @@ def refused_rows(number):
 
 # Document 01's line, of which the row 0 is 0 to 4, and its row 2, which has no run. A point alone has no rows, and closed it is refused.
 # Legs of width 1, 40 high and 20 apart, lie on the columns 0, 20, 40 and 60: six numbers hold three runs. Closed, the diagonal back from
-# (40,40) to (0,0) meets the row 20 at 20. Then one fault each, and two at once.
+# (40,40) to (0,0) meets the row 20 at 20. Out to (3,0) and back is the line again, and closed it ends where it begins. Then one fault
+# each, and two at once.
 THREE_LEGS = "12 0 0 0 40 20 40 20 0 40 0 40 40"
 FOUR_LEGS = "16 0 0 0 40 20 40 20 0 40 0 40 40 60 40 60 0"
 ROWS = [
@@ -102,6 +116,7 @@ ROWS = [
     ("w 3 0 7 2 0 0", f"0 false 0 0 | 2 false 0 0 | 0 {NO_RUNS} | 2 {NO_RUNS}"),
     (f"w 1 0 20 {THREE_LEGS}", " | ".join(["0 true 0 40"] * 2 + ["0 3 3 0 1 20 21 40 41"] * 2)),
     (f"w 1 0 20 {FOUR_LEGS}", " | ".join(["0 true 0 40"] * 2 + [f"8 {NO_RUNS}"] * 2)),
+    ("w 3 0 0 6 0 0 3 0 0 0", f"0 true -1 1 | 12 false 0 0 | 0 1 4 0 4 -7 -7 -7 -7 | 12 {NO_RUNS}"),
     ("w 3 0 4096 4 0 0 3 0", " | ".join(["0 true -1 1"] * 2 + [f"6 {NO_RUNS}"] * 2)),
     ("w 3 0 0 3 0 0 3", refused_rows(1)),
     (f"w 3 0 0 {MANY}", refused_rows(2)),
@@ -110,6 +125,11 @@ ROWS = [
     ("w 65 0 4096 3 0 0 512", refused_rows(1)),
     ("w 65 0 4096 4 0 0 512 0", refused_rows(3)),
     ("w 3 0 -4096 4 0 0 0 -512", refused_rows(4)),
+    ("w 3 0 0 4 3 0 3 0", refused_rows(12)),
+    ("w 3 0 0 6 0 0 3 0 3 0", refused_rows(12)),
+    ("w 65 0 0 4 3 0 3 0", refused_rows(3)),
+    ("w 3 0 0 6 3 0 3 0 512 0", refused_rows(4)),
+    ("w 3 0 4096 4 3 0 3 0", refused_rows(12)),
     (f"w 1 0 4096 {FOUR_LEGS}", " | ".join(["0 true 0 40"] * 2 + [f"6 {NO_RUNS}"] * 2)),
 ]
 

@@ -47,9 +47,10 @@ def lines():
     yield from route(open_segments(ZIGZAG[:5], 7), 3)
     yield from route(closed_segments(ZIGZAG, 3, LEFT), 20)
     yield from route(closed_segments(ZIGZAG[:3], 5, RIGHT), 11)
-    # width 65 at place 2, twice: refusal 3, and nothing is lit
-    yield from ["2 refused 3"] * 2
-    yield listing(set())
+    # two steps at place 2, and nothing is lit: width 65, a point twice on end, and a closed route that ends where it begins
+    for refusal in (3, 12, 12):
+        yield from [f"2 refused {refusal}"] * 2
+        yield listing(set())
 
 
 if __name__ == "__main__":

@@ -17,9 +17,9 @@ import exact
 import walks
 
 WITNESSES = {
-    "the printed body hands out an empty span": "M 0 0 0 4 0 0 0 0",
-    "the same on a row that the route does not come to": "M 0 0 1 4 0 0 0 0",
-    "painted twice by the printed body alone": "M 0 0 0 8 0 0 0 1 0 1 0 0",
+    "the printed body hands out an empty span": "M 0 0 0 4 0 0 1 0",
+    "the same on a row that the route does not come to": "M 0 0 1 4 0 0 1 0",
+    "painted twice by the printed body alone": "M 0 0 0 8 0 0 0 1 1 1 0 0",
     "painted twice": "M 0 0 0 8 1 0 0 1 -1 0 1 0",
     "threshold": "O 64 0 0 4 -128 -128 128 128",
     "accumulator": "O 64 0 0 4 -127 -127 128 128",
@@ -30,11 +30,11 @@ ONE_POINT = "C 0 0 0 2 0 0"
 
 
 def routes_of_four(size):
-    """Those with a coordinate of this size, small sums of sizes first."""
+    """Those with a coordinate of this size and no two equal points on end, small sums of sizes first."""
     around = range(-size, size + 1)
     numbers = [n for n in product(around, repeat=8) if max(map(abs, n)) == size]
     numbers.sort(key=lambda n: (sum(map(abs, n)), [(abs(c), -c) for c in n]))
-    return map(exact.paired, numbers)
+    return (points for points in map(exact.paired, numbers) if not walks.is_doubled(points, closed=False))
 
 
 def rows_of(found):

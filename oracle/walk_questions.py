@@ -4,7 +4,7 @@
 """
 
 import random
-from itertools import product
+from itertools import islice, product
 
 import exact
 import smallest_walks
@@ -99,7 +99,7 @@ def offsets(rng):
 
 
 def doubled(rng):
-    """A point that follows itself: the first, the last, one between, all; the first at the end."""
+    """A point that follows an equal one: the first, the last, one between, all; the first at the end."""
     for width, size in product((0, 1, 3, 8), (5, 60)):
         a, b, c = random_route(rng, 3, size)
         for points in (
@@ -115,6 +115,27 @@ def doubled(rng):
             yield one_walk_of(rng, points, width)
             yield ask("C", points, width, rng.choice(OFFSETS))
             yield from merged_of(rng, points, width, 1)
+
+
+def put_in(points, place):
+    """The points with one of them twice."""
+    return [*points[: place + 1], *points[place:]]
+
+
+def doubled_places():
+    """Each place of short routes and of long ones; and near misses, which are drawn: neighbours that share one coordinate, a point
+    that comes again later."""
+    stairs = [(0, 0), (6, 0), (6, 5), (1, 9), (1, -3), (-7, -3), (-4, 8)]
+    long = [(i % 64 - 32, 4 * (i // 64) + i % 3) for i in range(MOST - 1)]
+    for kind in KINDS:
+        yield ask(kind, stairs, 2)
+        yield ask(kind, [*stairs[:3], *stairs[:3]], 2)
+        for place in range(len(stairs)):
+            yield ask(kind, put_in(stairs, place), 2)
+        yield ask(kind, [*stairs, stairs[0]], 2)
+        for place in (0, 1, 126, 127, MOST - 3, MOST - 2):
+            yield ask(kind, put_in(long, place), 0)
+        yield ask(kind, [*long, long[0]], 0)
 
 
 def spikes(rng):
@@ -207,6 +228,11 @@ def orders():
         yield of_numbers(kind, [0, LIMIT + 1], 3, 0, row)
         yield of_numbers(kind, [], 65, 0, row)
         yield of_numbers(kind, [], 64, 0, row)
+        yield of_numbers(kind, [5, 5, 5, 5, 5], 3, 0, row)
+        yield of_numbers(kind, [5, 5, 5, 5], 65, 0, row)
+        yield of_numbers(kind, [5, 5, 5, 5, 0, LIMIT + 1], 3, 0, row)
+        yield of_numbers(kind, [LIMIT + 1, 5] * 2, 3, 0, row)
+        yield of_numbers(kind, [5, 5, 5, 5], 3, 0, row)
 
 
 def comings_back(rng):
@@ -239,6 +265,14 @@ def random_question(rng):
     return ask(kind, points, width, rng.choice(OFFSETS) if kind in "OC" else 0)
 
 
+def undoubled(rng):
+    """Random questions whose route has no doubled point, so that the Rust is asked."""
+    while True:
+        question = random_question(rng)
+        if exact.whole_answer(question) != "refused 12":
+            yield question
+
+
 def questions():
     rng = random.Random(SEED)
     classes = {
@@ -247,6 +281,7 @@ def questions():
         "0 to 3 points": few_points(rng),
         "three offsets": offsets(rng),
         "doubled points": doubled(rng),
+        "doubled at each place": doubled_places(),
         "spikes": spikes(rng),
         "many points": many_points(rng),
         "255 points and more": most_points(rng),
@@ -256,5 +291,6 @@ def questions():
         "rows come back to": comings_back(rng),
         "across the box": across_the_box(rng),
         "random": (random_question(rng) for _ in range(500)),
+        "random, no point doubled": islice(undoubled(rng), 300),
     }
     return listed(classes)

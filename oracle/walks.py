@@ -1,4 +1,4 @@
-"""Walks, merged spans and rows of a route over exact numbers: 01's module 6 and "The board".
+"""Walks, merged spans and rows of a route over exact numbers: 01's module 6 and "The board", and K6 of 02.
 
 A walk is the list of its segments, each made from the points around its own place.
 """
@@ -9,6 +9,12 @@ from segments import NEW, Segment, extended, is_empty, meet, points_of, try_exte
 
 MOST_POINTS = 256
 MOST_RUNS = 32
+
+
+def is_doubled(points, closed):
+    """Whether a point follows an equal one; on a closed route the first follows the last."""
+    following = points[1:] + points[:1] if closed else points[1:]
+    return any(a == b for a, b in zip(points, following))
 
 
 def open_segments(points, width):

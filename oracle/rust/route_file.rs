@@ -1,4 +1,4 @@
-//! What the program `rows` prints of a route file, by document 01. The form, the refusals and the
+//! What the program `rows` prints of a route file, by documents 01 and 02. The form, the refusals and the
 //! board are written here; the segments and their spans are the printed Rust's.
 
 use crate::{
@@ -85,6 +85,7 @@ fn lit(route: &Route) -> Result<Vec<Lit>, u8> {
     refuse(2, points.len() > 256 || (*closed && points.len() == 1))?;
     refuse(3, *width > 64)?;
     refuse(4, points.iter().any(|point| beyond(511, point)))?;
+    refuse(12, is_doubled(points, *closed))?;
     let segments = segments(points, (*width).into(), *closed);
     refuse(5, segments.iter().any(is_far))?;
 
@@ -101,6 +102,12 @@ fn lit(route: &Route) -> Result<Vec<Lit>, u8> {
         found.extend(runs.into_iter().map(|run| (row, run)));
     }
     Ok(found)
+}
+
+/// Two neighbours are equal; of a closed route the last and the first are neighbours too.
+fn is_doubled(points: &[Point], closed: bool) -> bool {
+    let closing = points.last().zip(points.first()).filter(|_| closed);
+    points.windows(2).any(|pair| pair[0] == pair[1]) || closing.is_some_and(|(last, first)| last == first)
 }
 
 fn beyond(limit: i32, point: &Point) -> bool {

@@ -25,9 +25,9 @@ use Rattle.thick_segment.specs.Answers.{boxAnswer}
 use Rattle.thick_segment.proofs.Answers.{box-chosen}
 use Rattle.thick_segment.proofs.Drawn.{CornersHave, JoinHas, On}
 use Rattle.thick_segment.proofs.Lit.{around-first, around-second, holds-on, holds-row, skeleton-rows, rows-among, box-among}
-use Rattle.coordinates.specs.Points.{pointCount, placeBefore}
+use Rattle.coordinates.specs.Points.{pointCount, placeBefore, segmentsOf}
 use Rattle.coordinates.proofs.Places.{before-inside, before-after}
-use Rattle.route_joins.specs.Joins.{joinAt, joinCount, joinOn, endPlace, segmentsOf, segmentAt, segmentOf, segmentCount}
+use Rattle.route_joins.specs.Joins.{joinAt, joinCount, joinOn, endPlace, segmentAt, segmentOf, segmentCount}
 use Rattle.route_joins.proofs.Near.{place-inside, joins-exactly, several-by}
 use Rattle.route_joins.proofs.Open.{first-join, last-join}
 use Rattle.route.specs.declared.RowRange.{RowRange}

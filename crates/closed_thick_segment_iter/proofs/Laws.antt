@@ -33,8 +33,8 @@ module _ (limits : Limits) (cs : List ℤ) (w : ℤ) (o : Offset) (accepted : Ac
   unfolding closedStep afterClosed
   segment-by-segment = route-in-turn limits true cs w o at accepted (λ p. refl) (λ p. refl) begun
 
--- ---- refusals of a step: 1 to 4 exactly when the list and the width are refused with it, then 5 exactly when a join of the segment at its
--- place has a corner beyond the limit
+-- ---- refusals of a step: 5 exactly when the list and the width are not refused, and a join of the segment at its place has a corner beyond
+-- the limit; any other number exactly when they are refused with it
 
 module _ (limits : Limits) (cs : List ℤ) (walk : Walk) where
   pub step-five : (closedStep limits cs walk .refusal ≡ 5)
@@ -56,7 +56,7 @@ module _ (limits : Limits) (cs : List ℤ) (walk : Walk) where
   unfolding afterClosed
   step-kept other = rw (place-kept (closedStep limits cs walk) (walk .place) other)
 
--- ---- a start is refused with 1 to 4 alone; refused, its walk is all 0
+-- ---- a start is refused as the list and the width are; refused, its walk is all 0
 
 module _ (k : ℕ) (cs : List ℤ) (w : ℤ) (o : Offset) where
   pub start-refusal : closedStart k cs w o .refusal ≡ routeRefusal k true cs w

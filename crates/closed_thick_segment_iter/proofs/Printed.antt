@@ -16,9 +16,9 @@ use Rattle.shapes.specs.declared.Point.{Point}
 use Rattle.shapes.specs.declared.Offset.{Offset}
 use Rattle.line_join.specs.declared.Join.{Join}
 use Rattle.line_join.specs.Join.{startOf, joinOf}
-use Rattle.coordinates.specs.Points.{pointAt, pointCount, pointsOf, placeAfter, placeBefore}
+use Rattle.coordinates.specs.Points.{pointAt, pointCount, pointsOf, placeAfter, placeBefore, segmentsOf}
 use Rattle.coordinates.proofs.Lists.{points-in-turn, last-two}
-use Rattle.route_joins.specs.Joins.{bendAt, closedJoin, joinOn, endPlace, segmentsOf, segmentOf, segmentCount, closedSegment, closedCount}
+use Rattle.route_joins.specs.Joins.{bendAt, closedJoin, joinOn, endPlace, segmentOf, segmentCount, closedSegment, closedCount}
 use Rattle.closed_thick_segment_iter.specs.Printed.{between, Known, Iterator, pastWindows, turned, answered, closedSegments}
 
 module _ (cs : List ℤ) (w : ℤ) (o : Offset) where

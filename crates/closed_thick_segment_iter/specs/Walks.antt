@@ -12,7 +12,7 @@ use Rattle.route_joins.specs.Steps.{StepValues, routeStep, placeFrom}
 use Rattle.closed_thick_segment_iter.specs.declared.Walk.{Walk}
 use Rattle.closed_thick_segment_iter.specs.declared.Started.{Started}
 
--- 1 to 4, k being the points' limit, with 0 for the rest; else a walk at the first segment
+-- the list's and the width's refusal, k being the points' limit, with 0 for the rest; else a walk at the first segment
 unfoldable pub closedStart : ℕ → List ℤ → ℤ → Offset → Started
 closedStart k cs w o =
     let n = routeRefusal k true cs w in

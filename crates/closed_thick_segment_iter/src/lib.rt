@@ -31,8 +31,8 @@ pub struct Stepped {
 }
 
 /// A walk from the first segment of a closed route on. Refused with 1 for an odd number of coordinates, 2 for more than 256
-/// points or one alone, 3 for a width outside 0 to 64, 4 for a coordinate outside 511. A route of 0 points has no segments, one
-/// of two points has two.
+/// points or one alone, 3 for a width outside 0 to 64, 4 for a coordinate outside 511, 12 for two consecutive points that are
+/// equal, or the last and the first. A route of 0 points has no segments, one of two points has two.
 pub fn start(coordinates: &[i64], width: i64, offset: Offset) -> Started
     ensures { λ r. ⌜ r ≡ closedStart pointLimit (now (coordinates .entry)) width offset ⌝ }
 {

@@ -1,4 +1,4 @@
--- Places round a closed route stay in it, and one comes after the one before it. Assumes nothing.
+-- Places round a closed route: they stay in it, one comes after the one before it, and the first after the last. Assumes nothing.
 use mathlib.Core.Path.{_≡_, refl}
 use mathlib.Core.Bool.{Bool, true, false, cond}
 use Prim.Native.Nat.{ℕ, _+_, _-_, _<_}
@@ -6,6 +6,14 @@ use native.Mathlib.Omega.{arith}
 use borrow.Author.Tests.{eqb-true, eqb-false, eq-eqb, ne-eqb}
 use lib.Dec.{eqb}
 use Rattle.coordinates.specs.Points.{placeAfter, placeBefore}
+
+pub after-inner : (n i : ℕ) → i + 1 < n → placeAfter n i ≡ i + 1
+unfolding placeAfter
+after-inner n i more = rw (ne-eqb (i + 1) n (λ e. omega (arith, e)))
+
+pub after-last : (n i : ℕ) → i + 1 ≡ n → placeAfter n i ≡ 0
+unfolding placeAfter
+after-last n i last = rw (eq-eqb (i + 1) n last)
 
 after-by : (n i : ℕ) (t : Bool) → eqb (i + 1) n ≡ t → i < n → cond t 0 (i + 1) < n
 after-by n i true e h = omega arith

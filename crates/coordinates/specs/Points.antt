@@ -1,5 +1,5 @@
 -- 01: points come as one list of numbers, x and y in turn.
-use mathlib.Core.Bool.{cond}
+use mathlib.Core.Bool.{Bool, cond}
 use mathlib.Core.List.{List, [], _∷_}
 use Prim.Native.Nat.{ℕ, _+_, _-_, _*_, _/_}
 use lib.Dec.{eqb}
@@ -28,6 +28,10 @@ placeAfter n i = cond (eqb (i + 1) n) 0 (i + 1)
 
 unfoldable pub placeBefore : ℕ → ℕ → ℕ
 placeBefore n i = cond (eqb i 0) (n - 1) (i - 1)
+
+-- n points give n - 1 segments of an open route, none where n is 0, and n of a closed one
+unfoldable pub segmentsOf : Bool → ℕ → ℕ
+segmentsOf closed n = cond closed n (n - 1)
 
 -- a number that is left over is no point
 unfoldable pub pointCount : List ℤ → ℕ

@@ -1,4 +1,5 @@
--- 01, "What each number says": 1 to 4 for a route's list and width, in this order; and what a list is that none of them refuses.
+-- 01, "What each number says", and K6: 1 to 4 and then 12 for a route's list and width, in this order; and what a list is that none of
+-- them refuses.
 use mathlib.Core.Path.{_≡_}
 use mathlib.Core.Logic.{_≢_}
 use mathlib.Core.Bool.{Bool, true, _&&_, _||_, cond}
@@ -9,9 +10,10 @@ use lib.IntN.{ℤ, pos}
 use lib.ListN.{length, getD}
 use Rattle.whole.specs.Number.{Within, isWithin}
 use Rattle.shapes.specs.Limits.{routePoints}
-use Rattle.shapes.specs.Refusals.{oddRefused, pointsRefused}
+use Rattle.shapes.specs.Refusals.{oddRefused, pointsRefused, doubledRefused, orElse}
 use Rattle.shapes.specs.Strokes.{Thin, strokeRefusal}
 use Rattle.coordinates.specs.Points.{pointCount}
+use Rattle.coordinates.specs.Neighbours.{isDoubled, Doubled}
 
 -- a number is left over
 unfoldable pub isOdd : List ℤ → Bool
@@ -29,7 +31,8 @@ areWithin k (c ∷ cs) = isWithin k c && areWithin k cs
 unfoldable pub routeRefusal : ℕ → Bool → List ℤ → ℤ → ℕ
 routeRefusal k closed cs w =
     cond (isOdd cs) oddRefused
-    (cond (isMiscounted closed (pointCount cs)) pointsRefused (strokeRefusal w (areWithin k cs)))
+    (cond (isMiscounted closed (pointCount cs)) pointsRefused
+    (orElse (strokeRefusal w (areWithin k cs)) (cond (isDoubled closed cs) doubledRefused 0)))
 
 pub record AllWithin (k : ℕ) (cs : List ℤ) : Type 0 where
   pub within : (i : ℕ) → Within (getD cs i (pos 0)) k
@@ -41,3 +44,4 @@ pub record Accepted (k : ℕ) (closed : Bool) (cs : List ℤ) (w : ℤ) : Type 0
   pub several : closed ≡ true → pointCount cs ≢ 1
   pub thin : Thin w
   pub near : AllWithin k cs
+  pub single : Doubled closed cs → ⊥

@@ -1,13 +1,17 @@
 //! Points of a list by their place, and what a list is refused with, for any limit of its coordinates.
 ghost use mathlib.Core.Path.{_≡_};
 ghost use Prim.Native.Nat.{_<_};
-ghost use Rattle.coordinates.specs.Points.{pointAt, pointCount, placeAfter, placeBefore};
+ghost use Rattle.coordinates.specs.Points.{pointAt, pointCount, placeAfter, placeBefore, segmentsOf};
+ghost use Rattle.coordinates.specs.Neighbours.{isDoubled};
 ghost use Rattle.coordinates.specs.Refusal.{areWithin, isMiscounted, routeRefusal};
 use crate::point_count;
 use shapes::Point;
+use shapes::inner::same_point;
 use shapes::limits::ROUTE_POINTS;
+use shapes::refusals::DOUBLED;
 use shapes::refusals::ODD;
 use shapes::refusals::POINTS;
+use shapes::refusals::or_else;
 use shapes::strokes::stroke_refusal;
 use whole::inner::within;
 
@@ -44,7 +48,21 @@ pub fn place_before(count: usize, i: usize) -> usize
     i - 1
 }
 
-/// What the list and the width of a route are refused with, or 0, for coordinates from `-limit` to `limit`: 1 to 4, in this order.
+/// How many segments `count` points, or joins, bound.
+pub fn segments_of(count: usize, closed: bool) -> usize
+    ensures { λ r. ⌜ r ≡ segmentsOf closed count ⌝ }
+{
+    if closed {
+        return count;
+    }
+    if count == 0 {
+        return 0;
+    }
+    count - 1
+}
+
+/// What the list and the width of a route are refused with, or 0, for coordinates from `-limit` to `limit`: 1 to 4 and then 12,
+/// in this order.
 pub fn refusal(coordinates: &[i64], width: i64, closed: bool, limit: u32) -> u64
     ensures { λ r. ⌜ r ≡ routeRefusal limit closed (now (coordinates .entry)) width ⌝ }
 {
@@ -55,7 +73,11 @@ pub fn refusal(coordinates: &[i64], width: i64, closed: bool, limit: u32) -> u64
     if is_miscounted(count, closed) {
         return POINTS;
     }
-    stroke_refusal(width, are_within(coordinates, limit))
+    let stroke = stroke_refusal(width, are_within(coordinates, limit));
+    if is_doubled(coordinates, closed) {
+        return or_else(stroke, DOUBLED);
+    }
+    stroke
 }
 
 /// Whether there are more than 256 points, or one of a closed route.
@@ -81,4 +103,22 @@ fn are_within(coordinates: &[i64], limit: u32) -> bool
         }
     }
     true
+}
+
+/// Whether two consecutive points of a route are equal; of a closed one the first follows the last.
+fn is_doubled(coordinates: &[i64], closed: bool) -> bool
+    ensures { λ r. ⌜ r ≡ isDoubled closed (now (coordinates .entry)) ⌝ }
+{
+    let count = point_count(coordinates);
+    let segments = segments_of(count, closed);
+    let mut place: usize = 0;
+    while place < segments {
+        let here = point_at(coordinates, place);
+        let next = point_at(coordinates, place_after(count, place));
+        if same_point(here, next) {
+            return true;
+        }
+        place += 1;
+    }
+    false
 }

@@ -1,6 +1,7 @@
 -- The cases worked out by hand hold, by computation. Assumes nothing.
 use mathlib.Core.Path.{refl}
 use Rattle.whole.specs.Number.{isWithin, lesser, greater}
+use Rattle.whole.specs.Places.{someFrom}
 use Rattle.whole.specs.Rounded.{rounded}
 use Rattle.shapes.specs.Shape.{samePoint, isNear, isLineNear, plus, minus, quarterTurn, determinant, dotProduct, squaredLength, delta, midpoint}
 use Rattle.shapes.specs.Strokes.{isThin, strokeRefusal}
@@ -17,15 +18,16 @@ use Rattle.line_join.specs.Join.{meet, overlapping, bentAt, bentOf, startOf, jo
 use Rattle.thick_segment.specs.Segments.{isSegmentNear, isSkeleton, edgesOf, least, most, boxOf, union, boundingBox, drawn}
 use Rattle.thick_segment.specs.Rows.{around, withLines, drawnRows}
 use Rattle.thick_segment.specs.Answers.{boxAnswer, drawnRowsAnswer}
-use Rattle.coordinates.specs.Points.{pointAt, pointCount, placeAfter, placeBefore}
+use Rattle.coordinates.specs.Points.{pointAt, pointCount, placeAfter, placeBefore, segmentsOf}
+use Rattle.coordinates.specs.Neighbours.{isDoubled}
 use Rattle.coordinates.specs.Refusal.{isOdd, isMiscounted, areWithin, routeRefusal}
-use Rattle.route_joins.specs.Joins.{bendAt, closedJoin, joinOn, endPlace, segmentsOf, segmentOf, segmentCount}
+use Rattle.route_joins.specs.Joins.{bendAt, closedJoin, joinOn, endPlace, segmentOf, segmentCount}
 use Rattle.route_joins.specs.Steps.{stepValues, checked, stepAt, routeStep, placeFrom}
 use Rattle.closed_thick_segment_iter.specs.Walks.{closedStart, closedStep, afterClosed}
 use Rattle.corners.specs.Cases.{Walks, Holds, Every}
 use Rattle.corners.specs.Worked.{evenWidth, oddWidth, turnedRound, atThreshold, diagonal, leftOnly, rightOnly, bevelLeft, bevelRight, degenerate, shortTurn, oddFiller, skeleton, cutCorner, outAndBack, worked}
 
 pub worked-hold : Every worked
-unfolding Every Holds worked evenWidth oddWidth turnedRound atThreshold diagonal leftOnly rightOnly bevelLeft bevelRight degenerate shortTurn oddFiller skeleton cutCorner outAndBack boxAnswer boundingBox union boxOf most least drawnRowsAnswer drawnRows withLines around drawn edgesOf isSkeleton lesser greater Walks closedStart closedStep afterClosed routeStep stepAt checked stepValues placeFrom isSegmentNear segmentCount segmentOf segmentsOf endPlace joinOn closedJoin bendAt routeRefusal areWithin isMiscounted isOdd pointAt pointCount placeAfter placeBefore startCapsAnswer endCapsAnswer capsValues startCapsOf endCapsOf capOf fillerOf midpoint joinValues madeOf joinAnswer pointsAnswer isJoinNear isCornersNear joinOf startOf bentOf bentAt overlapping meet reaches miterLimit crossingOf nearlyColinear drawnOf sideOf solutionOf cramerOf equationOf distanceOf isOnSide rounded quarterTurn determinant extentsAnswer extentsOf closed lasts seen parallelsOf parallels spare parallelsFrom yieldOf grown isDone parallelsStart planOf planAlong thickness aimed nextParallel turnOf bent increased decreased nextAll previousAll parametersAlong along directionOf strokeRefusal isThin isLineNear isNear isWithin samePoint plus minus dotProduct squaredLength delta
+unfolding Every Holds worked evenWidth oddWidth turnedRound atThreshold diagonal leftOnly rightOnly bevelLeft bevelRight degenerate shortTurn oddFiller skeleton cutCorner outAndBack boxAnswer boundingBox union boxOf most least drawnRowsAnswer drawnRows withLines around drawn edgesOf isSkeleton lesser greater Walks closedStart closedStep afterClosed routeStep stepAt checked stepValues placeFrom isSegmentNear segmentCount segmentOf segmentsOf endPlace joinOn closedJoin bendAt routeRefusal isDoubled someFrom areWithin isMiscounted isOdd pointAt pointCount placeAfter placeBefore startCapsAnswer endCapsAnswer capsValues startCapsOf endCapsOf capOf fillerOf midpoint joinValues madeOf joinAnswer pointsAnswer isJoinNear isCornersNear joinOf startOf bentOf bentAt overlapping meet reaches miterLimit crossingOf nearlyColinear drawnOf sideOf solutionOf cramerOf equationOf distanceOf isOnSide rounded quarterTurn determinant extentsAnswer extentsOf closed lasts seen parallelsOf parallels spare parallelsFrom yieldOf grown isDone parallelsStart planOf planAlong thickness aimed nextParallel turnOf bent increased decreased nextAll previousAll parametersAlong along directionOf strokeRefusal isThin isLineNear isNear isWithin samePoint plus minus dotProduct squaredLength delta
 worked-hold =
     ((refl, refl), ((refl, refl), ((refl, refl), ((refl, refl), ((refl, refl), ((refl, refl), ((refl, refl), (refl, (refl, (refl, (refl, ((refl, refl), ((refl, refl), ((refl, refl), ((refl, (refl, (refl, refl))), tt)))))))))))))))

@@ -30,6 +30,7 @@ use Rattle.thick_segment.specs.declared.Segment.{Segment}
 use Rattle.thick_segment.specs.declared.Rectangle.{Rectangle}
 use Rattle.thick_segment.specs.declared.Rows.{Rows}
 use Rattle.thick_segment.specs.Answers.{boxAnswer, drawnRowsAnswer}
+use Rattle.coordinates.specs.Refusal.{routeRefusal}
 use Rattle.route_joins.specs.declared.Step.the-variants.{Drawn, End}
 use Rattle.route_joins.specs.Steps.{stepValues}
 use Rattle.closed_thick_segment_iter.specs.declared.Walk.{Walk}
@@ -61,6 +62,8 @@ pub data Case : Type 0 where
   rowed : Segment → Rectangle → Rows → Case
   -- the coordinates of a closed route and a width, and its segments
   closed : List ℤ → ℤ → List Segment → Case
+  -- whether a route is closed, its coordinates and a width, and what these are refused with
+  refused : Bool → List ℤ → ℤ → ℕ → Case
 
 -- offers to row 0, one after the other
 abbrev pub offersOf : List Run → List Event
@@ -92,6 +95,7 @@ Holds (capped j starting ending) = (startCapsAnswer cornerLimit j ≡ capsValues
 Holds (rowed s box rows) =
     (boxAnswer cornerLimit s ≡ record { refusal = 0; rectangle = box }) × (drawnRowsAnswer cornerLimit s ≡ record { refusal = 0; rows = rows })
 Holds (closed cs w ss) = (closedStart pointLimit cs w None .refusal ≡ 0) × Walks cs (closedStart pointLimit cs w None .walk) ss
+Holds (refused isClosed cs w n) = routeRefusal pointLimit isClosed cs w ≡ n
 
 -- each case of a list holds
 unfoldable pub Every : List Case → Type 0

@@ -15,7 +15,8 @@ use Rattle.shapes.specs.declared.limits.Limits.{Limits}
 use Rattle.shapes.specs.Refusals.{orElse}
 use Rattle.thick_segment.specs.declared.Rows.{Rows}
 use Rattle.thick_segment.specs.Rows.{drawnRows}
-use Rattle.route_joins.specs.Joins.{segmentAt, segmentCount, segmentsOf, joinCount}
+use Rattle.coordinates.specs.Points.{segmentsOf}
+use Rattle.route_joins.specs.Joins.{segmentAt, segmentCount, joinCount}
 use Rattle.route.specs.declared.Joins.{Joins}
 use Rattle.route.specs.declared.RowRange.{RowRange}
 use Rattle.route.specs.Joined.{joinsOf, segmentsIn}
@@ -203,14 +204,14 @@ module _ (limits : Limits) (closed : Bool) (cs : List ℤ) (w : ℤ) where
   pub whole-eight : (wholeRefusal limits closed cs w ≡ 8) ↔ SomeFull limits closed cs w
   unfolding wholeRefusal rowsRefusal
   whole-eight =
-      let later = or-later n all {m = 8} (omega arith) (draw-most limits closed cs w (omega arith)) in (
+      let later = or-later n all {m = 8} (omega arith) (draw-most limits closed cs w (omega arith) (λ e. omega arith)) in (
         λ e. let h = later .0 e in full-row (h .0) (found room 0 (rowCount rows) (omega arith) (h .1)),
         λ s.
             let none = row-eight-exactly limits closed cs w (s .row) .0 (s .full) .0 in
             later .1 (none, told room 0 (rowCount rows) (λ j h. each-row (0 + j)) (row-full none s)),
       )
 
-  -- any other number exactly when its rows are: 1 to 5
+  -- any other number exactly when its rows are: 1 to 4, 12 and 5
   pub whole-before : {m : ℕ} → 0 < m → m ≢ 8 → (wholeRefusal limits closed cs w ≡ m) ↔ (n ≡ m)
   unfolding wholeRefusal rowsRefusal
   whole-before some eight = or-before n all some (all-other some eight)

@@ -15,8 +15,9 @@ use Rattle.board.specs.declared.Answer.{Answer}
 use Rattle.board.specs.Boards.{Sound, boardOf}
 use Rattle.board_laws.specs.Histories.{covered, boardAfter, spansAfter}
 use Rattle.board_laws.specs.Offers.{Proper}
+use Rattle.coordinates.specs.Points.{segmentsOf}
 use Rattle.coordinates.specs.Refusal.{Accepted}
-use Rattle.route_joins.specs.Joins.{joinCount, segmentsOf, segmentAt, areJoinsNear}
+use Rattle.route_joins.specs.Joins.{joinCount, segmentAt, areJoinsNear}
 use Rattle.route.specs.declared.Joins.{Joins}
 use Rattle.route.specs.Joined.{Kept, joinsOf, segmentsIn}
 use Rattle.route.specs.Rows.{offerAll, spanIn, boardOn}

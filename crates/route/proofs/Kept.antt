@@ -17,9 +17,9 @@ use Rattle.line_join.specs.declared.Join.{Join}
 use Rattle.line_join.proofs.Room.{join-near-more}
 use Rattle.thick_segment.specs.declared.Segment.{Segment}
 use Rattle.thick_segment.specs.Segments.{SegmentNear}
-use Rattle.coordinates.specs.Points.{pointCount}
+use Rattle.coordinates.specs.Points.{pointCount, segmentsOf}
 use Rattle.coordinates.specs.Refusal.{Accepted}
-use Rattle.route_joins.specs.Joins.{joinAt, joinCount, areJoinsNear, endPlace, segmentsOf, segmentAt, segmentOf, segmentCount}
+use Rattle.route_joins.specs.Joins.{joinAt, joinCount, areJoinsNear, endPlace, segmentAt, segmentOf, segmentCount}
 use Rattle.route_joins.proofs.Near.{place-inside, joins-exactly}
 use Rattle.route.specs.declared.Joins.{Joins}
 use Rattle.route.specs.Joined.{noJoin, keptIn, joinsOf, Kept, segmentsIn, segmentIn}

@@ -33,7 +33,7 @@ use Rattle.route.specs.Answers.{drawRefusal, noListing, listingOf, refus
 use Rattle.shapes.proofs.Choices.{or-none, or-either, or-later, or-before}
 use Rattle.route.proofs.Drawn.{room-or-full, row-reached, row-eight}
 
--- ---- 1 to 5
+-- ---- 1 to 4, 12 and 5
 
 module _ (limits : Limits) (closed : Bool) (cs : List ℤ) (w : ℤ) where
   abbrev before : ℕ
@@ -65,22 +65,22 @@ module _ (limits : Limits) (closed : Bool) (cs : List ℤ) (w : ℤ) where
   pub draw-five : (drawRefusal limits closed cs w ≡ 5) ↔ (Accepted (limits .point) closed cs w × (Near → ⊥))
   unfolding drawRefusal
   draw-five =
-      let later = or-later before (cond near 0 5) {m = 5} (omega arith) (refused-most (limits .point) closed cs w (omega arith)) in
+      let later = or-later before (cond near 0 5) {m = 5} (omega arith) (refused-most (limits .point) closed cs w (omega arith) (λ e. omega arith)) in
       let five = good-first near {n = 5} {rest = 0} near-exactly (λ e. omega arith) in (
         λ e. (taken-exactly .0 (later .0 e .0), five .0 (later .0 e .1)),
         λ h. later .1 (taken-exactly .1 (h .0), five .1 (h .1)),
       )
 
-  -- 1 to 4 exactly when the list and the width are refused with it
-  pub draw-before : {m : ℕ} → 0 < m → m < 5 → (drawRefusal limits closed cs w ≡ m) ↔ (before ≡ m)
+  -- any other number exactly when the list and the width are refused with it: 1 to 4, and 12
+  pub draw-before : {m : ℕ} → 0 < m → m ≢ 5 → (drawRefusal limits closed cs w ≡ m) ↔ (before ≡ m)
   unfolding drawRefusal
-  draw-before some few = or-before before (cond near 0 5) some (never near (λ z. omega (arith, z)) (λ z. omega (arith, z)))
+  draw-before some five = or-before before (cond near 0 5) some (never near (λ z. omega (arith, z)) (λ z. five (sym z)))
 
   -- no other number is given
-  pub draw-most : {m : ℕ} → 5 < m → drawRefusal limits closed cs w ≡ m → ⊥
+  pub draw-most : {m : ℕ} → 5 < m → m ≢ 12 → drawRefusal limits closed cs w ≡ m → ⊥
   unfolding drawRefusal
-  draw-most high e =
-      ⊎-elim (refused-most (limits .point) closed cs w (omega arith)) (λ s. never near (λ z. omega (arith, z)) (λ z. omega (arith, z)) (s .1))
+  draw-most high twelve e =
+      ⊎-elim (refused-most (limits .point) closed cs w (omega arith) twelve) (λ s. never near (λ z. omega (arith, z)) (λ z. omega (arith, z)) (s .1))
       (or-either before (cond near 0 5) (omega arith) .0 e)
 
 -- ---- a row of joins that are kept: 6 exactly when it is outside, then 8 exactly when it has no room
@@ -108,7 +108,7 @@ module _ (k : ℕ) (route : Joins) (row : ℤ) where
   unfolding refusalOn
   on-most some six eight = never (isWithin k row) (other-room (λ z. omega (arith, some, z)) (λ z. eight (sym z))) (λ z. six (sym z))
 
--- ---- a route's row: 1 to 5 as the route, and then these
+-- ---- a route's row: refused as the route, and then these
 
 module _ (limits : Limits) (closed : Bool) (cs : List ℤ) (w row : ℤ) where
   abbrev d : ℕ
@@ -126,14 +126,14 @@ module _ (limits : Limits) (closed : Bool) (cs : List ℤ) (w row : ℤ) where
   pub row-six : (rowRefusal limits closed cs w row ≡ 6) ↔ ((d ≡ 0) × (Within row (limits .corner) → ⊥))
   unfolding rowRefusal
   row-six =
-      let later = or-later d on {m = 6} (omega arith) (draw-most limits closed cs w (omega arith)) in
+      let later = or-later d on {m = 6} (omega arith) (draw-most limits closed cs w (omega arith) (λ e. omega arith)) in
       let six = on-six (limits .corner) joins row in
       (λ e. (later .0 e .0, six .0 (later .0 e .1)), λ h. later .1 (h .0, six .1 (h .1)))
 
   pub row-eight-exactly : (rowRefusal limits closed cs w row ≡ 8) ↔ ((d ≡ 0) × (Within row (limits .corner) × Crowded (spansOn closed cs w row)))
   unfolding rowRefusal
   row-eight-exactly =
-      let later = or-later d on {m = 8} (omega arith) (draw-most limits closed cs w (omega arith)) in
+      let later = or-later d on {m = 8} (omega arith) (draw-most limits closed cs w (omega arith) (λ e. omega arith)) in
       let eight = on-eight (limits .corner) joins row in (
         λ e. let z = later .0 e in let h = eight .0 (z .1) in (z .0, (h .0, crowds (z .0) (h .0) .0 (h .1))),
         λ h. later .1 (h .0, eight .1 (h .1 .0, crowds (h .0) (h .1 .0) .1 (h .1 .1))),
@@ -142,7 +142,7 @@ module _ (limits : Limits) (closed : Bool) (cs : List ℤ) (w row : ℤ) where
       crowds : d ≡ 0 → Within row (limits .corner) → (drawn .refusal ≡ 8) ↔ Crowded (spansOn closed cs w row)
       crowds z inside = let a = draw-none limits closed cs w .0 z in row-eight (limits .corner) (a .0) (near-exactly limits closed cs w .1 (a .1)) row inside
 
-  -- any other number exactly when the route is refused with it: 1 to 5
+  -- any other number exactly when the route is refused with it: 1 to 4, 12 and 5
   pub row-before : {m : ℕ} → 0 < m → m ≢ 6 → m ≢ 8 → (rowRefusal limits closed cs w row ≡ m) ↔ (d ≡ m)
   unfolding rowRefusal
   row-before some six eight = or-before d on some (on-most (limits .corner) joins row some six eight)

@@ -1,4 +1,4 @@
--- The entries' answers, for any limits: 1 to 5 for the route, then 6 for a row outside, then 8 for a row that has no room.
+-- The entries' answers, for any limits: 1 to 4, 12 and 5 for the route, then 6 for a row outside, then 8 for a row that has no room.
 use mathlib.Core.Bool.{Bool, true, false, cond}
 use mathlib.Core.List.{List}
 use Prim.Native.Nat.{ℕ}
@@ -20,7 +20,7 @@ use Rattle.route.specs.declared.Listing.{Listing}
 use Rattle.route.specs.Joined.{noJoin, joinsOf}
 use Rattle.route.specs.Rows.{boardOn, noRows, rowsIn, rowsRefusal}
 
--- ---- 1 to 5, or 0
+-- ---- 1 to 4, 12, 5, or 0
 
 unfoldable pub drawRefusal : Limits → Bool → List ℤ → ℤ → ℕ
 drawRefusal limits closed cs w = orElse (routeRefusal (limits .point) closed cs w) (cond (areJoinsNear (limits .corner) closed cs w) 0 cornerRefused)
@@ -66,7 +66,7 @@ listOn k route row out = cond (eqb (refusalOn k route row) 0) (toldTo (boardOn r
 
 -- ---- a route's row
 
--- 1 to 6, then 8 where the row needs too many runs after some segment, or 0
+-- that of the route, then 6, then 8 where the row needs too many runs after some segment, or 0
 unfoldable pub rowRefusal : Limits → Bool → List ℤ → ℤ → ℤ → ℕ
 rowRefusal limits closed cs w row = orElse (drawRefusal limits closed cs w) (refusalOn (limits .corner) (joinsOf (limits .corner) closed cs w) row)
 

@@ -11,7 +11,8 @@ use Rattle.line_join.specs.declared.Kind.the-variants.{Miter}
 use Rattle.line_join.specs.Answers.{noCorners}
 use Rattle.line_join.specs.Caps.{JoinNear}
 use Rattle.thick_segment.specs.declared.Segment.{Segment}
-use Rattle.route_joins.specs.Joins.{joinAt, joinCount, areJoinsNear, endPlace, segmentsOf}
+use Rattle.coordinates.specs.Points.{segmentsOf}
+use Rattle.route_joins.specs.Joins.{joinAt, joinCount, areJoinsNear, endPlace}
 use Rattle.route.specs.declared.Joins.{Joins}
 
 -- what stands in the array beyond the joins

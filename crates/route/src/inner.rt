@@ -18,6 +18,7 @@ use board::inner::empty_board;
 use board::inner::list_sound;
 use board::inner::offer_sound;
 use coordinates::inner::refusal;
+use coordinates::inner::segments_of;
 use line_join::Corners;
 use line_join::Join;
 use line_join::Kind;
@@ -25,7 +26,6 @@ use line_join::inner::is_join_near;
 use route_joins::inner::end_place;
 use route_joins::inner::join_count;
 use route_joins::inner::join_on;
-use route_joins::inner::segments_of;
 use shapes::Offset;
 use shapes::Point;
 use shapes::limits::Limits;
@@ -95,7 +95,7 @@ pub fn joins_of(coordinates: &[i64], width: i64, closed: bool, limit: u32) -> Jo
     }
 }
 
-/// The joins of a route, or its refusal from 1 to 5, for the entries: every one of them begins so.
+/// The joins of a route, or its refusal, 1 to 4, 12 or 5, for the entries: every one of them begins so.
 pub fn prepare(coordinates: &[i64], width: i64, closed: bool, limits: Limits) -> Prepared
     requires { ⌜ Roomy limits ⌝ }
     ensures { λ r. ⌜ r ≡ preparedOf limits closed (now (coordinates .entry)) width ⌝ }

@@ -24,7 +24,7 @@ pub struct Joins {
     pub joins: [Join; 256],
 }
 
-/// The joins of a route, or a refusal: `refusal` is 0, or 01's number from 1 to 5.
+/// The joins of a route, or a refusal: `refusal` is 0, or 1 to 4, 12 or 5.
 pub struct Prepared {
     pub refusal: u64,
     pub joins: Joins,
@@ -47,7 +47,8 @@ pub struct Listing {
 
 /// The rows of a route: from the first to the last row of the lines that are drawn, so that both are lit and no row outside them is;
 /// none where it has no segments. Refused with 1 for an odd number of coordinates, 2 for more than 256 points or a closed route of
-/// one, 3 for a width outside 0 to 64, 4 for a coordinate beyond 511, 5 for a join with a corner beyond 4,095.
+/// one, 3 for a width outside 0 to 64, 4 for a coordinate beyond 511, 12 for two consecutive points that are equal, of a closed
+/// route also the last and the first, 5 for a join with a corner beyond 4,095.
 pub fn rows(coordinates: &[i64], width: i64, closed: bool) -> RowRange
     ensures { λ r. ⌜ r ≡ rowsAnswer panelLimits closed (now (coordinates .entry)) width ⌝ }
 {
@@ -63,7 +64,7 @@ pub fn rows(coordinates: &[i64], width: i64, closed: bool) -> RowRange
     rows_of(route.joins)
 }
 
-/// What a route is refused with as a whole, or 0: 1 to 5 as `rows`, and then 8 if one of its rows needs more than 32 runs after some
+/// What a route is refused with as a whole, or 0: as `rows`, and then 8 if one of its rows needs more than 32 runs after some
 /// segment.
 pub fn refusal(coordinates: &[i64], width: i64, closed: bool) -> u64
     ensures { λ r. ⌜ r ≡ wholeRefusal panelLimits closed (now (coordinates .entry)) width ⌝ }
@@ -76,7 +77,7 @@ pub fn refusal(coordinates: &[i64], width: i64, closed: bool) -> u64
 }
 
 /// Writes the runs of a route's row to the front of `out`, start and end of each in turn, and answers their count and the number
-/// of their columns; the rest of `out` keeps its content. Refused with 1 to 5 as `rows`, then with 6 for a row outside 4,095, then
+/// of their columns; the rest of `out` keeps its content. Refused as `rows`, then with 6 for a row outside 4,095, then
 /// with 8 if the row needs more than 32 runs after some segment, or `out` has fewer than two numbers for each run. Refused, `out`
 /// is as it was.
 pub fn row(coordinates: &[i64], width: i64, closed: bool, row: i64, out: &mut [i64]) -> Listing

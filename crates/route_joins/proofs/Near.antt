@@ -19,11 +19,11 @@ use Rattle.shapes.proofs.Widths.{thin-back}
 use Rattle.line_join.specs.Caps.{JoinNear, isJoinNear}
 use Rattle.extents.specs.Edges.{EdgesNear, extentsOf}
 use Rattle.line_join.proofs.Room.{join-near-iff, edges-within}
-use Rattle.coordinates.specs.Points.{pointAt, pointCount}
+use Rattle.coordinates.specs.Points.{pointAt, pointCount, segmentsOf}
 use Rattle.coordinates.specs.Refusal.{AllWithin, Accepted}
 use Rattle.coordinates.proofs.Lists.{point-near}
 use Rattle.coordinates.proofs.Places.{after-inside}
-use Rattle.route_joins.specs.Joins.{joinAt, joinCount, areJoinsNear, endPlace, segmentsOf, segmentCount, Drawable}
+use Rattle.route_joins.specs.Joins.{joinAt, joinCount, areJoinsNear, endPlace, segmentCount, Drawable}
 
 -- ---- what joins ask
 

@@ -172,11 +172,11 @@ module _ (limits : Limits) (closed : Bool) (cs : List ℤ) (w : ℤ) (o : Offset
   abbrev far : ℕ → Type 0
   far place = SegmentNear (limits .corner) (segmentOf closed cs w o place) → ⊥
 
-  -- 1 to 4 exactly when the list and the width are refused with it, then 5 exactly when a join of the segment at the place has a corner
-  -- beyond the limit
+  -- 5 exactly when the list and the width are not refused, and a join of the segment at the place has a corner beyond the limit; any other
+  -- number exactly when they are refused with it
   pub route-five : (place : ℕ) → (routeStep limits closed cs w o place .refusal ≡ 5) ↔ ((routeRefusal (limits .point) closed cs w ≡ 0) × ((place < segmentCount closed cs) × far place))
   unfolding routeStep
-  route-five place = five-exactly (limits .corner) _ _ _ place (refused-most (limits .point) closed cs w (omega arith))
+  route-five place = five-exactly (limits .corner) _ _ _ place (refused-most (limits .point) closed cs w (omega arith) (λ e. omega arith))
 
   pub route-other : (place : ℕ) {n : ℕ} → 0 < n → (n ≡ 5 → ⊥) → (routeStep limits closed cs w o place .refusal ≡ n) ↔ (routeRefusal (limits .point) closed cs w ≡ n)
   unfolding routeStep

@@ -13,7 +13,7 @@ use Rattle.line_join.specs.declared.Join.{Join}
 use Rattle.line_join.specs.Caps.{isJoinNear}
 use Rattle.line_join.specs.Join.{startOf, endOf, joinOf}
 use Rattle.thick_segment.specs.declared.Segment.{Segment}
-use Rattle.coordinates.specs.Points.{pointAt, pointCount, placeAfter, placeBefore}
+use Rattle.coordinates.specs.Points.{pointAt, pointCount, placeAfter, placeBefore, segmentsOf}
 use Rattle.coordinates.specs.Refusal.{AllWithin}
 
 -- ---- joins
@@ -46,10 +46,6 @@ joinCount cs = cond (leb 2 (pointCount cs)) (pointCount cs) 0
 -- the place of the join at which the segment from place k ends: the last one of a closed route ends where the first begins
 unfoldable pub endPlace : Bool → ℕ → ℕ → ℕ
 endPlace closed n k = cond closed (placeAfter n k) (k + 1)
-
--- n points give n - 1 segments of an open route, none where n is 0, and n of a closed one
-unfoldable pub segmentsOf : Bool → ℕ → ℕ
-segmentsOf closed n = cond closed n (n - 1)
 
 unfoldable pub segmentOf : Bool → List ℤ → ℤ → Offset → ℕ → Segment
 segmentOf closed cs w o k = record { start = joinOn closed cs w o k; end = joinOn closed cs w o (endPlace closed (pointCount cs) k) }

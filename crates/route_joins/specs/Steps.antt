@@ -37,7 +37,7 @@ stepValues (Refused n) = record { refusal = n; found = 0; start = noJoinValues; 
 unfoldable pub checked : ℕ → Segment → StepValues
 checked k s = cond (isSegmentNear k s) (stepValues (Drawn s)) (stepValues (Refused cornerRefused))
 
--- `refusal` is that of the list and the width: 1 to 4, or 0
+-- `refusal` is that of the list and the width, or 0
 unfoldable pub stepAt : ℕ → ℕ → ℕ → (ℕ → Segment) → ℕ → StepValues
 stepAt k refusal count segment place =
     cond (eqb refusal 0) (cond (ltb place count) (checked k (segment place)) (stepValues End)) (stepValues (Refused refusal))

@@ -5,7 +5,7 @@ ghost use Rattle.shapes.specs.Limits.{strokeLimit, Roomy};
 ghost use Rattle.shapes.specs.Strokes.{Thin};
 ghost use Rattle.coordinates.specs.Points.{pointCount};
 ghost use Rattle.coordinates.specs.Refusal.{AllWithin};
-ghost use Rattle.route_joins.specs.Joins.{Drawable, bendAt, openJoin, closedJoin, joinOn, joinCount, endPlace, segmentsOf};
+ghost use Rattle.route_joins.specs.Joins.{Drawable, bendAt, openJoin, closedJoin, joinOn, joinCount, endPlace};
 ghost use Rattle.route_joins.specs.Joins.{segmentOf, segmentCount, areJoinsNear};
 ghost use Rattle.route_joins.specs.Steps.{stepValues, routeStep, placeFrom};
 use crate::Placed;
@@ -14,6 +14,7 @@ use coordinates::inner::place_after;
 use coordinates::inner::place_before;
 use coordinates::inner::point_at;
 use coordinates::inner::refusal;
+use coordinates::inner::segments_of;
 use coordinates::point_count;
 use line_join::Join;
 use line_join::inner::end;
@@ -115,19 +116,6 @@ pub fn end_place(count: usize, closed: bool, k: usize) -> usize
         return place_after(count, k);
     }
     k + 1
-}
-
-/// How many segments `count` points, or joins, bound.
-pub fn segments_of(count: usize, closed: bool) -> usize
-    ensures { λ r. ⌜ r ≡ segmentsOf closed count ⌝ }
-{
-    if closed {
-        return count;
-    }
-    if count == 0 {
-        return 0;
-    }
-    count - 1
 }
 
 /// How many segments a route has, open or closed: none of 0 or 1 points where it is open.

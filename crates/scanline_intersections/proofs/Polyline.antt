@@ -9,9 +9,9 @@ use lib.ListN.{length, getD}
 use Rattle.whole.specs.Places.{listFrom}
 use Rattle.whole.proofs.Places.{list-length, list-at}
 use Rattle.thick_segment.specs.declared.Segment.{Segment}
-use Rattle.coordinates.specs.Points.{pointAt, pointCount, pointsOf}
+use Rattle.coordinates.specs.Points.{pointAt, pointCount, pointsOf, segmentsOf}
 use Rattle.coordinates.proofs.Lists.{points-in-turn}
-use Rattle.route_joins.specs.Joins.{openJoin, segmentsOf, segmentCount, openSegment, openCount}
+use Rattle.route_joins.specs.Joins.{openJoin, segmentCount, openSegment, openCount}
 use Rattle.route_joins.proofs.Open.{first-join, last-join, inner-join, segment-is}
 use Rattle.scanline_intersections.specs.Polyline.{nextSegments, polylineSegments}
 

@@ -1,6 +1,6 @@
 -- What the refusals say: each number exactly when it is the first of 01's table that holds. Assumes nothing.
 use mathlib.Core.Path.{_≡_, refl, sym, _∙_}
-use mathlib.Core.Logic.{_↔_}
+use mathlib.Core.Logic.{_↔_, _≢_}
 use mathlib.Core.Bool.{Bool, true, false, cond}
 use mathlib.Core.List.{List, [], _∷_}
 use Prim.Native.Nat.{ℕ, _+_, _≤_, _<_}
@@ -72,8 +72,8 @@ module _ (limits : Limits) (cs : List ℤ) where
   fine w = Accepted (limits .point) false cs w
 
   -- a number that the list and the width are not refused with
-  other : (w : ℤ) {m : ℕ} → 4 < m → list w ≡ m → (list w ≡ 0 → ⊥) → ⊥
-  other w high e _ = refused-most (limits .point) false cs w high e
+  other : (w : ℤ) {m : ℕ} → 4 < m → m ≢ 12 → list w ≡ m → (list w ≡ 0 → ⊥) → ⊥
+  other w high twelve e _ = refused-most (limits .point) false cs w high twelve e
 
   -- ---- start
 
@@ -81,10 +81,10 @@ module _ (limits : Limits) (cs : List ℤ) where
     abbrev inside : Bool
     inside = isWithin (limits .corner) row
 
-    -- 1 to 4 as of the list and the width
-    pub start-list : {m : ℕ} → 0 < m → m ≤ 4 → (startRefusal limits cs w row ≡ m) ↔ (list w ≡ m)
+    -- any number but 6 as of the list and the width: 1 to 4, and 12
+    pub start-list : {m : ℕ} → 0 < m → m ≢ 6 → (startRefusal limits cs w row ≡ m) ↔ (list w ≡ m)
     unfolding startRefusal
-    start-list low high = first-exactly (λ e. omega arith) (never inside (λ e. omega arith) (λ e. omega arith)) (eqb (list w) 0) refl
+    start-list some six = first-exactly (λ e. omega (arith, e)) (never inside (λ e. omega (arith, e)) (λ e. six (sym e))) (eqb (list w) 0) refl
 
     start-later : {Q : Type 0} {m : ℕ} → (list w ≡ m → (list w ≡ 0 → ⊥) → ⊥) → (cond inside 0 6 ≡ m) ↔ Q → (startRefusal limits cs w row ≡ m) ↔ (fine w × Q)
     unfolding startRefusal
@@ -92,7 +92,7 @@ module _ (limits : Limits) (cs : List ℤ) where
 
     -- then 6: the row is outside
     pub start-6 : (startRefusal limits cs w row ≡ 6) ↔ (fine w × (Within row (limits .corner) → ⊥))
-    start-6 = start-later (other w (omega arith)) (good-first inside (within-iff (limits .corner) row) (λ e. omega arith))
+    start-6 = start-later (other w (omega arith) (λ e. omega arith)) (good-first inside (within-iff (limits .corner) row) (λ e. omega arith))
 
     pub start-sound : (startRefusal limits cs w row ≡ 0) ↔ (fine w × Within row (limits .corner))
     start-sound = start-later (λ h no. no h) (bad-first inside (within-iff (limits .corner) row) (λ e. omega arith))
@@ -116,14 +116,14 @@ module _ (limits : Limits) (cs : List ℤ) where
     rest = cond near (spanRefusal (limits .corner) (walk .span)) 5
 
     -- a span is refused with 6 and 7 alone
-    span-never : {m : ℕ} → 0 < m → m < 6 → spanRefusal (limits .corner) (walk .span) ≡ m → ⊥
+    span-never : {m : ℕ} → 0 < m → m ≢ 6 → m ≢ 7 → spanRefusal (limits .corner) (walk .span) ≡ m → ⊥
     unfolding spanRefusal
-    span-never low high = never (isWithin (limits .corner) (walk .span .row)) (never (isSpanSound (limits .corner) (walk .span)) (λ e. omega arith) (λ e. omega arith)) (λ e. omega arith)
+    span-never some six seven = never (isWithin (limits .corner) (walk .span .row)) (never (isSpanSound (limits .corner) (walk .span)) (λ e. omega (arith, e)) (λ e. seven (sym e))) (λ e. six (sym e))
 
-    -- 1 to 4 as of the list and the width
-    pub next-list : {m : ℕ} → 0 < m → m ≤ 4 → (nextRefusal limits cs walk ≡ m) ↔ (list w ≡ m)
+    -- any number but 5, 6 and 7 as of the list and the width: 1 to 4, and 12
+    pub next-list : {m : ℕ} → 0 < m → m ≢ 5 → m ≢ 6 → m ≢ 7 → (nextRefusal limits cs walk ≡ m) ↔ (list w ≡ m)
     unfolding nextRefusal
-    next-list low high = first-exactly (λ e. omega arith) (never near (span-never low (omega arith)) (λ e. omega arith)) (eqb (list w) 0) refl
+    next-list some five six seven = first-exactly (λ e. omega (arith, e)) (never near (span-never some six seven) (λ e. five (sym e))) (eqb (list w) 0) refl
 
     next-later : {Q : Type 0} {m : ℕ} → (list w ≡ m → (list w ≡ 0 → ⊥) → ⊥) → (rest ≡ m) ↔ Q → (nextRefusal limits cs walk ≡ m) ↔ (fine w × Q)
     unfolding nextRefusal
@@ -131,17 +131,17 @@ module _ (limits : Limits) (cs : List ℤ) where
 
     -- then 5: some join of the route has a corner outside
     pub next-5 : (nextRefusal limits cs walk ≡ 5) ↔ (fine w × (JoinsNear w → ⊥))
-    next-5 = next-later (other w (omega arith)) (good-first near (joins-exactly (limits .corner) false cs w) (span-never (omega arith) (omega arith)))
+    next-5 = next-later (other w (omega arith) (λ e. omega arith)) (good-first near (joins-exactly (limits .corner) false cs w) (span-never (omega arith) (λ e. omega arith) (λ e. omega arith)))
 
     -- then 6 and 7, as of the walk's span
     later-near : {Q : Type 0} {m : ℕ} → (5 ≡ m → ⊥) → (list w ≡ m → (list w ≡ 0 → ⊥) → ⊥) → (spanRefusal (limits .corner) (walk .span) ≡ m) ↔ Q → (nextRefusal limits cs walk ≡ m) ↔ (fine w × (JoinsNear w × Q))
     later-near five o q = next-later o (good-later near (joins-exactly (limits .corner) false cs w) five q)
 
     pub next-6 : (nextRefusal limits cs walk ≡ 6) ↔ (fine w × (JoinsNear w × (Within (walk .span .row) (limits .corner) → ⊥)))
-    next-6 = later-near (λ e. omega arith) (other w (omega arith)) (span-six (limits .corner) (walk .span))
+    next-6 = later-near (λ e. omega arith) (other w (omega arith) (λ e. omega arith)) (span-six (limits .corner) (walk .span))
 
     pub next-7 : (nextRefusal limits cs walk ≡ 7) ↔ (fine w × (JoinsNear w × (Within (walk .span .row) (limits .corner) × (SpanSound (limits .corner) (walk .span) → ⊥))))
-    next-7 = later-near (λ e. omega arith) (other w (omega arith)) (span-seven (limits .corner) (walk .span))
+    next-7 = later-near (λ e. omega arith) (other w (omega arith) (λ e. omega arith)) (span-seven (limits .corner) (walk .span))
 
     pub next-sound : (nextRefusal limits cs walk ≡ 0) ↔ (fine w × (JoinsNear w × (Within (walk .span .row) (limits .corner) × SpanSound (limits .corner) (walk .span))))
     next-sound = later-near (λ e. omega arith) (λ h no. no h) (span-none (limits .corner) (walk .span))

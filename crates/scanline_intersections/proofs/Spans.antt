@@ -10,8 +10,8 @@ use Rattle.whole.proofs.Places.{list-end, list-next}
 use Rattle.shapes.specs.declared.Span.{Span}
 use Rattle.scanline.specs.Spans.{tryExtended}
 use Rattle.thick_segment.specs.Segments.{SegmentNear}
-use Rattle.coordinates.specs.Points.{pointCount}
-use Rattle.route_joins.specs.Joins.{openSegment, openCount, segmentOf, segmentCount, segmentsOf, endPlace, joinCount, areJoinsNear}
+use Rattle.coordinates.specs.Points.{pointCount, segmentsOf}
+use Rattle.route_joins.specs.Joins.{openSegment, openCount, segmentOf, segmentCount, endPlace, joinCount, areJoinsNear}
 use Rattle.route_joins.proofs.Near.{joins-exactly}
 use Rattle.scanline_intersections.specs.Segments.{spanAt, spansFrom}
 use Rattle.scanline_intersections.specs.Merging.{walkOf, mergedNext}

@@ -65,11 +65,11 @@ module _ (limits : Limits) (cs : List ℤ) (walk : Intersections) where
   unfolding afterPolyline
   step-kept other = rw (place-kept (polylineStep limits cs walk) (walk .place) other)
 
-  -- ---- the refusals of a step: 1 to 4 as of the list and the width
+  -- ---- the refusals of a step: any number but 5 as of the list and the width
 
-  pub step-list : {m : ℕ} → 0 < m → m ≤ 4 → (polylineStep limits cs walk .refusal ≡ m) ↔ (routeRefusal (limits .point) false cs (walk .width) ≡ m)
+  pub step-list : {m : ℕ} → 0 < m → m ≢ 5 → (polylineStep limits cs walk .refusal ≡ m) ↔ (routeRefusal (limits .point) false cs (walk .width) ≡ m)
   unfolding polylineStep
-  step-list low high = route-other limits false cs (walk .width) None (walk .place) low (λ e. omega (arith, e))
+  step-list = route-other limits false cs (walk .width) None (walk .place)
 
   -- then 5: a join of the segment at the place has a corner outside
   pub step-5 : (polylineStep limits cs walk .refusal ≡ 5)

@@ -18,7 +18,7 @@ use Rattle.scanline_intersections.specs.declared.Started.{Started}
 use Rattle.scanline_intersections.specs.declared.Merged.{Merged}
 use Rattle.scanline_intersections.specs.Merging.{walkOf, nextMerged}
 
--- ---- start: 1 to 4 of the list and the width, then 6, a row outside
+-- ---- start: what the list and the width are refused with, then 6, a row outside
 
 unfoldable pub startRefusal : Limits → List ℤ → ℤ → ℤ → ℕ
 startRefusal limits cs w row = orElse (routeRefusal (limits .point) false cs w) (cond (isWithin (limits .corner) row) 0 rowRefused)

@@ -51,8 +51,8 @@ pub struct Merged {
     pub walk: Intersections,
 }
 
-/// A walk along the segments of an open route on a row. The list and the width are refused with 1 to 4; then a row outside 4,095
-/// with 6.
+/// A walk along the segments of an open route on a row. The list and the width are refused with 1 to 4 and 12; then a row outside
+/// 4,095 with 6.
 pub fn start(coordinates: &[i64], width: i64, row: i64) -> Started
     ensures { λ r. ⌜ r ≡ polylineStart panelLimits (now (coordinates .entry)) width row ⌝ }
 {
@@ -86,8 +86,8 @@ pub fn start(coordinates: &[i64], width: i64, row: i64) -> Started
 }
 
 /// The segment at the walk's place, and the walk one place further; or the end, past the last segment. The list and the walk's
-/// width are refused with 1 to 4; then a segment of which a join has a corner beyond 4,095 with 5: the walk then stays where it
-/// is. The gathered span and its row are not looked at.
+/// width are refused with 1 to 4 and 12; then a segment of which a join has a corner beyond 4,095 with 5: the walk then stays
+/// where it is. The gathered span and its row are not looked at.
 pub fn next_segment(coordinates: &[i64], walk: Intersections) -> Stepped
     ensures answers { λ r. ⌜ stepValues (r .step) ≡ polylineStep panelLimits (now (coordinates .entry)) walk ⌝ }
     ensures moves { λ r. ⌜ r .walk ≡ afterPolyline panelLimits (now (coordinates .entry)) walk ⌝ }
@@ -109,8 +109,9 @@ pub fn next_segment(coordinates: &[i64], walk: Intersections) -> Stepped
 }
 
 /// The next merged span: the spans of the segments left are gathered while each overlaps or is adjacent to what is gathered so far;
-/// no span is handed out that is empty. The list and the walk's width are refused with 1 to 4; then a route of which some join has
-/// a corner beyond 4,095 with 5; then a row of the walk's span outside 4,095 with 6; then a column of that span outside with 7.
+/// no span is handed out that is empty. The list and the walk's width are refused with 1 to 4 and 12; then a route of which some
+/// join has a corner beyond 4,095 with 5; then a row of the walk's span outside 4,095 with 6; then a column of that span outside
+/// with 7.
 pub fn next(coordinates: &[i64], walk: Intersections) -> Merged
     ensures { λ r. ⌜ r ≡ nextAnswer panelLimits (now (coordinates .entry)) walk ⌝ }
 {
@@ -130,7 +131,7 @@ pub fn next(coordinates: &[i64], walk: Intersections) -> Merged
     }
 }
 
-/// The refusal of a start, 0 where there is none: 1 to 4, then 6.
+/// The refusal of a start, 0 where there is none: 1 to 4, 12, then 6.
 fn start_refusal(coordinates: &[i64], width: i64, row: i64) -> u64
     ensures { λ r. ⌜ r ≡ startRefusal panelLimits (now (coordinates .entry)) width row ⌝ }
 {
@@ -141,8 +142,8 @@ fn start_refusal(coordinates: &[i64], width: i64, row: i64) -> u64
     if within(row, limits::CORNER) { 0 } else { ROW }
 }
 
-/// The refusal of a walk whose next merged span is asked for, 0 where there is none: 1 to 4, then 5, then 6 and 7, with which
-/// `try_take` refuses the walk's span.
+/// The refusal of a walk whose next merged span is asked for, 0 where there is none: 1 to 4, 12, then 5, then 6 and 7, with
+/// which `try_take` refuses the walk's span.
 fn next_refusal(coordinates: &[i64], walk: Intersections) -> u64
     ensures { λ r. ⌜ r ≡ nextRefusal panelLimits (now (coordinates .entry)) walk ⌝ }
 {

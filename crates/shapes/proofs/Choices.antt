@@ -1,12 +1,19 @@
 -- The first of two numbers that is a refusal: when it is a given number. Assumes nothing.
 use mathlib.Core.Path.{_≡_, refl, sym, _∙_}
 use mathlib.Core.Logic.{_↔_, _⊎_, inl, inr, ⊎-elim}
-use mathlib.Core.Bool.{Bool, true, false}
+use mathlib.Core.Bool.{Bool, true, false, cond}
 use Prim.Native.Nat.{ℕ, _<_}
 use native.Mathlib.Omega.{arith}
 use borrow.Author.Tests.{eqb-true, eqb-false, eq-eqb, ne-eqb}
 use lib.Dec.{eqb}
 use Rattle.shapes.specs.Refusals.{orElse}
+
+pub or-zero : (first : ℕ) → orElse first 0 ≡ first
+or-zero first = by (eqb first 0) refl
+  where
+    by : (t : Bool) → eqb first 0 ≡ t → cond t 0 first ≡ first
+    by true e = sym (eqb-true first 0 e)
+    by false e = refl
 
 module _ (first second : ℕ) where
   pub or-free : first ≡ 0 → orElse first second ≡ second

@@ -1,7 +1,8 @@
 -- A stroke's width, and its refusals, each exactly when. Assumes nothing.
-use mathlib.Core.Path.{_≡_}
+use mathlib.Core.Path.{_≡_, refl}
 use mathlib.Core.Logic.{_↔_}
-use mathlib.Core.Bool.{Bool, true}
+use mathlib.Core.Bool.{Bool, true, false, cond}
+use Prim.Native.Nat.{ℕ}
 use native.Mathlib.Omega.{arith}
 use lib.IntN.{ℤ, pos}
 use lib.Signed.{leZ}
@@ -12,6 +13,7 @@ use Rattle.whole.proofs.Linear.{linear, abs-le}
 use Rattle.whole.proofs.Machine.{Hold, hold}
 use Rattle.whole.proofs.Tests.{and-iff, le-iff, never, bad-first, good-first, good-later}
 use Rattle.shapes.specs.Limits.{widthLimit}
+use Rattle.shapes.specs.Refusals.{orElse}
 use Rattle.shapes.specs.Strokes.{Thin, isThin, strokeRefusal}
 
 -- ---- widths
@@ -46,3 +48,13 @@ module _ (w : ℤ) {near : Bool} {P : Type 0} (exactly : (near ≡ true) ↔ P) 
   pub stroke-none : (strokeRefusal w near ≡ 0) ↔ (Thin w × P)
   unfolding strokeRefusal
   stroke-none = good-later (isThin w) (thin-iff w) (λ e. omega arith) (bad-first near exactly (λ e. omega arith))
+
+-- 3, then 4, then whatever is tested after them
+pub stroke-else : (w : ℤ) (near : Bool) (later : ℕ) → orElse (strokeRefusal w near) later ≡ cond (isThin w) (cond near later 4) 3
+unfolding strokeRefusal
+stroke-else w near later = by (isThin w) near
+  where
+    by : (t u : Bool) → orElse (cond t (cond u 0 4) 3) later ≡ cond t (cond u later 4) 3
+    by true true = refl
+    by true false = refl
+    by false u = refl

@@ -23,6 +23,10 @@ widthRefused = 3
 abbrev pub coordinateRefused : ℕ
 coordinateRefused = 4
 
+-- two consecutive points of a route are equal, of a closed one also the last and the first
+abbrev pub doubledRefused : ℕ
+doubledRefused = 12
+
 -- some join of the walk has one of its four corners outside 4,095
 abbrev pub cornerRefused : ℕ
 cornerRefused = 5

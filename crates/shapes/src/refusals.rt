@@ -2,7 +2,7 @@
 //! specs/Refusals.antt.
 ghost use mathlib.Core.Path.{_≡_};
 ghost use Rattle.shapes.specs.Refusals.{formRefused, oddRefused, pointsRefused, widthRefused, coordinateRefused};
-ghost use Rattle.shapes.specs.Refusals.{cornerRefused, rowRefused, columnRefused, roomRefused};
+ghost use Rattle.shapes.specs.Refusals.{doubledRefused, cornerRefused, rowRefused, columnRefused, roomRefused, orElse};
 
 /// A route file's form is wrong.
 pub const FORM: u64 = 9;
@@ -18,6 +18,9 @@ pub const WIDTH: u64 = 3;
 
 /// A coordinate outside its limit.
 pub const COORDINATE: u64 = 4;
+
+/// Two consecutive points of a route are equal.
+pub const DOUBLED: u64 = 12;
 
 /// A join with a corner outside 4,095.
 pub const CORNER: u64 = 5;
@@ -61,6 +64,12 @@ fn coordinate() -> u64
     COORDINATE
 }
 
+fn doubled() -> u64
+    ensures { λ r. ⌜ r ≡ doubledRefused ⌝ }
+{
+    DOUBLED
+}
+
 fn corner() -> u64
     ensures { λ r. ⌜ r ≡ cornerRefused ⌝ }
 {
@@ -83,4 +92,14 @@ fn room() -> u64
     ensures { λ r. ⌜ r ≡ roomRefused ⌝ }
 {
     ROOM
+}
+
+/// The first of two refusals, or 0 where neither is one.
+pub fn or_else(first: u64, second: u64) -> u64
+    ensures { λ r. ⌜ r ≡ orElse first second ⌝ }
+{
+    if first == 0 {
+        return second;
+    }
+    first
 }

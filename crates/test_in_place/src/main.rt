@@ -1,6 +1,6 @@
 //! Steps sample routes in place, from the first segment to the end and once more. A line tells what a step answers, behind the place
 //! that it leaves its walk at: of a segment the right edge, the left edge, and the start and end of its span on one row. The spans
-//! of a route go to a board of that row, whose runs are then listed to twelve numbers and to four records. The last walk is refused.
+//! of a route go to a board of that row, whose runs are then listed to twelve numbers and to four records. The last three walks are refused.
 mod owners; // owners.rt: owners that lend what is worked on in place
 
 use board::Board;
@@ -153,13 +153,21 @@ fn closed_route(coordinates: &[i64], width: i64, offset: Offset, row: i64) {
     );
 }
 
-// A walk that is refused stays where it is.
-fn refused_walk(coordinates: &[i64]) {
+// Walks that are refused stay where they are: one is too wide, one has a point twice on end, one comes back to its first point.
+fn refused_walks(coordinates: &[i64], doubled: &[i64], returned: &[i64]) {
     let wide = thick_segment_iter::Walk {
         place: 2,
         width: 65,
     };
     walk(coordinates, Walker::Open(wide), 20, 2);
+    let open = thick_segment_iter::Walk { place: 2, width: 3 };
+    walk(doubled, Walker::Open(open), 20, 2);
+    let closed = closed_thick_segment_iter::Walk {
+        place: 2,
+        width: 3,
+        offset: Offset::None,
+    };
+    walk(returned, Walker::Closed(closed), 20, 2);
 }
 
 fn main() {
@@ -168,5 +176,7 @@ fn main() {
     open_route(&zigzag[..10], 7, 3);
     closed_route(&zigzag, 3, Offset::Left, 20);
     closed_route(&zigzag[..6], 5, Offset::Right, 11);
-    refused_walk(&zigzag);
+    let doubled = [0i64, 0, 10, 40, 10, 40, 20, 0];
+    let returned = [0i64, 0, 10, 40, 20, 0, 0, 0];
+    refused_walks(&zigzag, &doubled, &returned);
 }

@@ -32,8 +32,8 @@ module _ (limits : Limits) (cs : List ℤ) (w : ℤ) (accepted : Accepted (limit
   unfolding openStep afterOpen
   segment-by-segment = route-in-turn limits false cs w None at accepted (λ p. refl) (λ p. refl) begun
 
--- ---- refusals of a step: 1 to 4 exactly when the list and the width are refused with it, then 5 exactly when a join of the segment at its
--- place has a corner beyond the limit
+-- ---- refusals of a step: 5 exactly when the list and the width are not refused, and a join of the segment at its place has a corner beyond
+-- the limit; any other number exactly when they are refused with it
 
 module _ (limits : Limits) (cs : List ℤ) (walk : Walk) where
   pub step-five : (openStep limits cs walk .refusal ≡ 5)
@@ -55,7 +55,7 @@ module _ (limits : Limits) (cs : List ℤ) (walk : Walk) where
   unfolding afterOpen
   step-kept other = rw (place-kept (openStep limits cs walk) (walk .place) other)
 
--- ---- a start is refused with 1 to 4 alone; refused, its walk is all 0
+-- ---- a start is refused as the list and the width are; refused, its walk is all 0
 
 module _ (k : ℕ) (cs : List ℤ) (w : ℤ) where
   pub start-refusal : openStart k cs w .refusal ≡ routeRefusal k false cs w

@@ -15,9 +15,9 @@ use Rattle.line_join.specs.declared.Kind.the-variants.{Miter, Bevel, Degenerate
 use Rattle.line_join.specs.declared.Join.{Join}
 use Rattle.line_join.specs.Join.{endOf, joinOf}
 use Rattle.line_join.proofs.Laws.{join-kind-exactly}
-use Rattle.coordinates.specs.Points.{pointAt, pointCount, pointsOf}
+use Rattle.coordinates.specs.Points.{pointAt, pointCount, pointsOf, segmentsOf}
 use Rattle.coordinates.proofs.Lists.{points-in-turn, last-two}
-use Rattle.route_joins.specs.Joins.{openJoin, segmentsOf, segmentCount, openSegment, openCount}
+use Rattle.route_joins.specs.Joins.{openJoin, segmentCount, openSegment, openCount}
 use Rattle.route_joins.proofs.Open.{first-join, last-join, inner-join, segment-is}
 use Rattle.thick_segment_iter.specs.Printed.{Iterator, isEnd, pastWindows, movedBy, answered, openSegments}
 

@@ -11,7 +11,7 @@ use Rattle.route_joins.specs.Steps.{StepValues, routeStep, placeFrom}
 use Rattle.thick_segment_iter.specs.declared.Walk.{Walk}
 use Rattle.thick_segment_iter.specs.declared.Started.{Started}
 
--- 1 to 4, k being the points' limit, with 0 for the rest; else a walk at the first segment
+-- the list's and the width's refusal, k being the points' limit, with 0 for the rest; else a walk at the first segment
 unfoldable pub openStart : ℕ → List ℤ → ℤ → Started
 openStart k cs w =
     let n = routeRefusal k false cs w in

@@ -29,7 +29,8 @@ pub struct Stepped {
 }
 
 /// A walk from the first segment of an open route on. Refused with 1 for an odd number of coordinates, 2 for more than 256
-/// points, 3 for a width outside 0 to 64, 4 for a coordinate outside 511. A route of 0 or 1 points has no segments.
+/// points, 3 for a width outside 0 to 64, 4 for a coordinate outside 511, 12 for two consecutive points that are equal. A route
+/// of 0 or 1 points has no segments.
 pub fn start(coordinates: &[i64], width: i64) -> Started
     ensures { λ r. ⌜ r ≡ openStart pointLimit (now (coordinates .entry)) width ⌝ }
 {

@@ -1,10 +1,13 @@
 -- `coordinates::inner::refusal` meets its contract. Assumes nothing.
-use mathlib.Core.Path.{_≡_, _∙_}
+use mathlib.Core.Path.{_≡_, sym, _∙_}
 use mathlib.Core.Bool.{false}
 use borrow.Author.Needs.{needs}
 use mir.Facts.{toZ-ofZ}
+use Rattle.shapes.specs.Strokes.{strokeRefusal}
+use Rattle.shapes.proofs.Choices.{or-zero}
 use Rattle.coordinates.specs.Points.{pointCount}
-use Rattle.coordinates.specs.Refusal.{isOdd, isMiscounted, routeRefusal}
+use Rattle.coordinates.specs.Neighbours.{isDoubled}
+use Rattle.coordinates.specs.Refusal.{isOdd, isMiscounted, areWithin, routeRefusal}
 use Rattle.coordinates.proofs.Lists.{count-within, odd-true, odd-false}
 use Rattle.coordinates.proofs.inner.refusal.Statement.{statement}
 use Rattle.coordinates.proofs.inner.refusal.Tie as tie
@@ -15,6 +18,14 @@ even c = odd-false (c .before .before .args .coordinates .now) (c .before .point
 
 counted : (c : tie.After-is-miscounted) → let s = c .before .before .before in isMiscounted (s .args .closed) (pointCount (s .args .coordinates .now)) ≡ c .is-miscounted .result
 counted c = cc
+
+-- what the tests after these say
+stroked : (c : tie.After-stroke-refusal) → let a = c .before .before .before .before .before .before .args in
+    c .stroke-refusal .result ≡ strokeRefusal (a .width) (areWithin (a .limit) (a .coordinates .now))
+stroked c = cc (toZ-ofZ (c .before .before .before .before .before .before .fits .width))
+
+doubled : (c : tie.After-is-doubled) → let a = c .before .before .before .before .before .before .before .args in isDoubled (a .closed) (a .coordinates .now) ≡ c .is-doubled .result
+doubled c = sym (c .is-doubled .ensures)
 
 mul-if1 : tie.Need-mul-if1
 mul-if1 c = search (needs, c .point-count .ensures, count-within (c .before .args .coordinates .now))
@@ -30,11 +41,30 @@ returns-2 c = rw (even (c .before .before), counted (c .before) ∙ c .if2 .take
 returns-3 : tie.Need-returns-3
 unfolding routeRefusal
 returns-3 c =
-    let e = c .before .before in
-    let s = e .before .before .before .before in
-    rw (even (e .before .before), counted (e .before) ∙ e .if2 .left) (cc (toZ-ofZ (s .fits .width)))
+    let d = c .before .before in
+    let e = d .before .before .before in
+    rw (even (e .before .before), counted (e .before) ∙ e .if2 .left, doubled d ∙ c .before .if3 .taken) (cc (stroked (d .before)))
+
+returns-4 : tie.Need-returns-4
+unfolding routeRefusal
+returns-4 c =
+    let d = c .before in
+    let e = d .before .before .before in
+    let a = e .before .before .before .before .args in
+    rw (even (e .before .before), counted (e .before) ∙ e .if2 .left, doubled d ∙ c .if3 .left, or-zero (strokeRefusal (a .width) (areWithin (a .limit) (a .coordinates .now)))) (stroked (d .before))
 
 pub refusal-spec : {M : Type 1} → statement M
 refusal-spec =
     tie.close
-    (tie.spec (λ c κs. search needs) mul-if1 returns (λ c κs. search needs) returns-2 (λ c κs. search needs) (λ c κs. search needs) returns-3)
+    (tie.spec
+    (λ c κs. search needs)
+    mul-if1
+    returns
+    (λ c κs. search needs)
+    returns-2
+    (λ c κs. search needs)
+    (λ c κs. search needs)
+    (λ c κs. search needs)
+    (λ c κs. search needs)
+    returns-3
+    returns-4)

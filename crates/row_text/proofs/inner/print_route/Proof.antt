@@ -16,7 +16,7 @@ use Rattle.row_text.proofs.inner.print_route.Tie as tie
 told : (c : tie.After-prepare) → let a = c .before .args in c .prepare .result ≡ preparedOf (a .limits) (a .closed) (a .coordinates .now) (a .width)
 told c = cc (toZ-ofZ (c .before .fits .width))
 
--- 1 to 5 do not refuse the route
+-- the joins of the route are not refused
 free : (c : tie.Else1) → let p = c .before .before in let a = p .before .args in Ready (a .limits) (a .closed) (a .coordinates .now) (a .width) (p .prepare .result .joins)
 free c = let p = c .before .before in let a = p .before .args in ready (a .limits) (a .closed) (a .coordinates .now) (a .width) (p .before .pre) (told p) (c .if1 .left)
 

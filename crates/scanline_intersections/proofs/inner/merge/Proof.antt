@@ -14,8 +14,8 @@ use Rattle.shapes.specs.Limits.{lineLimit}
 use Rattle.shapes.proofs.Widths.{thin-held, thin-back}
 use Rattle.scanline.specs.Spans.{tryExtended}
 use Rattle.thick_segment.specs.Segments.{SegmentNear}
-use Rattle.coordinates.specs.Points.{pointCount}
-use Rattle.route_joins.specs.Joins.{openCount, areJoinsNear, segmentCount, segmentsOf}
+use Rattle.coordinates.specs.Points.{pointCount, segmentsOf}
+use Rattle.route_joins.specs.Joins.{openCount, areJoinsNear, segmentCount}
 use Rattle.scanline_intersections.specs.Segments.{spanAt, spansFrom}
 use Rattle.scanline_intersections.specs.Merging.{mergedNext, nextMerged, walkOf}
 use Rattle.scanline_intersections.proofs.Spans.{segment-near, merged-more, merged-stop, merged-end}

@@ -1,9 +1,9 @@
--- `route_joins::inner::segments_of` meets its contract. Assumes nothing.
+-- `coordinates::inner::segments_of` meets its contract. Assumes nothing.
 use native.Mathlib.Omega.{arith}
 use borrow.Author.Needs.{needs}
-use Rattle.route_joins.specs.Joins.{segmentsOf}
-use Rattle.route_joins.proofs.inner.segments_of.Statement.{statement}
-use Rattle.route_joins.proofs.inner.segments_of.Tie as tie
+use Rattle.coordinates.specs.Points.{segmentsOf}
+use Rattle.coordinates.proofs.inner.segments_of.Statement.{statement}
+use Rattle.coordinates.proofs.inner.segments_of.Tie as tie
 
 returns : tie.Need-returns
 unfolding segmentsOf
