@@ -22,7 +22,9 @@ abbrev μ-loop : tie.MeasureT-loop
 
 -- the segments are those of the list
 counted : (c : tie.After-segments-of Inv-loop μ-loop) → let a = c .before .before .args in c .segments-of .result ≡ segmentsOf (a .closed) (pointCount (a .coordinates .now))
-counted c = c .segments-of .ensures ∙ ap (segmentsOf (c .before .before .args .closed)) (c .before .point-count .ensures)
+counted c =
+    let told : c .segments-of .result ≡ segmentsOf (c .before .before .args .closed) (c .before .point-count .result) = c .segments-of .ensures in
+    told ∙ ap (segmentsOf (c .before .before .args .closed)) (c .before .point-count .ensures)
 
 -- each begins at a point, and ends at one
 begins : (c : tie.In-loop Inv-loop μ-loop) → let l = c .before in l .loop .place < pointCount (l .before .before .before .args .coordinates .now)

@@ -1,8 +1,9 @@
 -- `coordinates::inner::refusal` meets its contract. Assumes nothing.
-use mathlib.Core.Path.{_≡_, sym, _∙_}
+use mathlib.Core.Path.{_≡_, sym, ap, _∙_}
 use mathlib.Core.Bool.{false}
 use borrow.Author.Needs.{needs}
 use mir.Facts.{toZ-ofZ}
+use Rattle.shapes.specs.Refusals.{orElse}
 use Rattle.shapes.specs.Strokes.{strokeRefusal}
 use Rattle.shapes.proofs.Choices.{or-zero}
 use Rattle.coordinates.specs.Points.{pointCount}
@@ -43,7 +44,8 @@ unfolding routeRefusal
 returns-3 c =
     let d = c .before .before in
     let e = d .before .before .before in
-    rw (even (e .before .before), counted (e .before) ∙ e .if2 .left, doubled d ∙ c .before .if3 .taken) (cc (stroked (d .before)))
+    let first : c .or-else .result ≡ orElse (d .before .stroke-refusal .result) 12 = c .or-else .ensures in
+    rw (even (e .before .before), counted (e .before) ∙ e .if2 .left, doubled d ∙ c .before .if3 .taken) (first ∙ ap (λ n. orElse n 12) (stroked (d .before)))
 
 returns-4 : tie.Need-returns-4
 unfolding routeRefusal
