@@ -1,8 +1,8 @@
 -- What a route's list and width are refused with: each number exactly when it is the first of 01's table that holds, and then K6's 12.
 -- Assumes nothing.
-use mathlib.Core.Path.{_≡_, sym}
+use mathlib.Core.Path.{_≡_, refl, sym, _∙_}
 use mathlib.Core.Logic.{_↔_, _≢_, _⊎_, inl, inr, ⊎-elim}
-use mathlib.Core.Bool.{Bool, true, _&&_, cond}
+use mathlib.Core.Bool.{Bool, true, false, _&&_, cond}
 use mathlib.Core.List.{List}
 use Prim.Native.Nat.{ℕ, _*_, _<_, _≤_}
 use native.Mathlib.Omega.{arith}
@@ -11,6 +11,7 @@ use lib.IntN.{ℤ}
 use lib.ListN.{length}
 use Rattle.whole.proofs.Tests.{and-iff, or-iff, ltb-iff, eqb-iff, else-false, never, bad-first, bad-later, good-first, good-later}
 use Rattle.shapes.specs.Limits.{routePoints}
+use Rattle.shapes.specs.Refusals.{orElse}
 use Rattle.shapes.specs.Strokes.{Thin, isThin, strokeRefusal}
 use Rattle.shapes.proofs.Choices.{or-zero}
 use Rattle.shapes.proofs.Widths.{thin-iff, stroke-else}
@@ -45,13 +46,19 @@ module _ (k : ℕ) (closed : Bool) (cs : List ℤ) (w : ℤ) where
 
   -- ---- the chain, test by test
 
+  abbrev stroke : ℕ
+  stroke = strokeRefusal w (areWithin k cs)
+
+  abbrev last : ℕ
+  last = cond (isDoubled closed cs) 12 0
+
   -- 3, 4 and 12, where the list has a sound length
   abbrev rest : ℕ
-  rest = cond (isThin w) (cond (areWithin k cs) (cond (isDoubled closed cs) 12 0) 4) 3
+  rest = cond (isThin w) (cond (areWithin k cs) last 4) 3
 
   chain : n ≡ cond (isOdd cs) 1 (cond (isMiscounted closed (pointCount cs)) 2 rest)
   unfolding routeRefusal
-  chain = rw (stroke-else w (areWithin k cs) (cond (isDoubled closed cs) 12 0))
+  chain = rw (stroke-else w (areWithin k cs) last)
 
   rest-never : {m : ℕ} → 0 < m → m ≢ 3 → m ≢ 4 → m ≢ 12 → rest ≡ m → ⊥
   rest-never some three four twelve =
@@ -65,7 +72,7 @@ module _ (k : ℕ) (closed : Bool) (cs : List ℤ) (w : ℤ) where
   after-count : {Q : Type 0} {m : ℕ} → (1 ≡ m → ⊥) → (2 ≡ m → ⊥) → (rest ≡ m) ↔ Q → (n ≡ m) ↔ ((Odd cs → ⊥) × ((Miscounted closed (pointCount cs) → ⊥) × Q))
   after-count one two q = after-odd one (bad-later (isMiscounted closed (pointCount cs)) (miscounted-exactly closed (pointCount cs)) two q)
 
-  after-width : {Q : Type 0} {m : ℕ} → (1 ≡ m → ⊥) → (2 ≡ m → ⊥) → (3 ≡ m → ⊥) → (cond (areWithin k cs) (cond (isDoubled closed cs) 12 0) 4 ≡ m) ↔ Q
+  after-width : {Q : Type 0} {m : ℕ} → (1 ≡ m → ⊥) → (2 ≡ m → ⊥) → (3 ≡ m → ⊥) → (cond (areWithin k cs) last 4 ≡ m) ↔ Q
       → (n ≡ m) ↔ ((Odd cs → ⊥) × ((Miscounted closed (pointCount cs) → ⊥) × (Thin w × Q)))
   after-width one two three q = after-count one two (good-later (isThin w) (thin-iff w) three q)
 
@@ -131,7 +138,27 @@ module _ (k : ℕ) (closed : Bool) (cs : List ℤ) (w : ℤ) where
     λ a. not-refused .1 (λ odd. omega (arith, a .paired), (λ m. ⊎-elim (λ many. omega (arith, a .few)) (λ one. a .several (one .0) (one .1)) m, (a .thin, (a .near, a .single)))),
   )
 
-  -- ---- K6, of few points and of others
+  -- ---- K6 beside 01
+
+  -- 01's chain, which has no 12
+  abbrev pub upToFour : ℕ
+  upToFour = cond (isOdd cs) 1 (cond (isMiscounted closed (pointCount cs)) 2 stroke)
+
+  -- 12 is tested on what 1 to 4 let through
+  pub let-through : n ≡ orElse upToFour last
+  unfolding routeRefusal
+  let-through = by (isOdd cs) (isMiscounted closed (pointCount cs))
+    where
+      by : (t u : Bool) → cond t 1 (cond u 2 (orElse stroke last)) ≡ orElse (cond t 1 (cond u 2 stroke)) last
+      by true u = refl
+      by false true = refl
+      by false false = refl
+
+  -- so where no two consecutive points are equal, the number is what it was
+  pub as-before : (Doubled closed cs → ⊥) → n ≡ upToFour
+  as-before single =
+      let none = else-false (isDoubled closed cs) (λ e. single (doubled-exactly cs closed .0 e)) in
+      let-through ∙ rw none (or-zero upToFour)
 
   -- a route of no point or of one is never refused with 12
   pub few-never : pointCount cs ≤ 1 → n ≡ 12 → ⊥
@@ -151,10 +178,3 @@ module _ (k : ℕ) (closed : Bool) (cs : List ℤ) (w : ℤ) where
           (thin, (near, inl (record { place = 0; followed = omega (arith, two); equal = equal }))),
         ),
       )
-
-  -- where no two consecutive points are equal, the number is what it was without 12
-  pub as-before : (Doubled closed cs → ⊥) → n ≡ cond (isOdd cs) 1 (cond (isMiscounted closed (pointCount cs)) 2 (strokeRefusal w (areWithin k cs)))
-  unfolding routeRefusal
-  as-before single =
-      let none = else-false (isDoubled closed cs) (λ e. single (doubled-exactly cs closed .0 e)) in
-      rw (none, or-zero (strokeRefusal w (areWithin k cs)))

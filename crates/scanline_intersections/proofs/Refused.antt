@@ -1,9 +1,9 @@
 -- What the refusals say: each number exactly when it is the first of 01's table that holds. Assumes nothing.
-use mathlib.Core.Path.{_≡_, refl, sym, _∙_}
+use mathlib.Core.Path.{_≡_, refl, sym}
 use mathlib.Core.Logic.{_↔_, _≢_}
 use mathlib.Core.Bool.{Bool, true, false, cond}
 use mathlib.Core.List.{List, [], _∷_}
-use Prim.Native.Nat.{ℕ, _+_, _≤_, _<_}
+use Prim.Native.Nat.{ℕ, _+_, _<_}
 use native.Mathlib.Omega.{arith}
 use borrow.Author.Tests.{eqb-true, eqb-false}
 use lib.Dec.{eqb}
@@ -13,6 +13,7 @@ use Rattle.whole.proofs.Laws.{within-iff}
 use Rattle.whole.proofs.Tests.{eqb-iff, Chosen, chosen, never, bad-first, good-first, good-later}
 use Rattle.shapes.specs.declared.limits.Limits.{Limits}
 use Rattle.shapes.specs.Spans.{isSpanSound, SpanSound}
+use Rattle.shapes.proofs.Choices.{or-before}
 use Rattle.shapes.specs.declared.Span.{Span}
 use Rattle.scanline.specs.Spans.{newSpan, tryExtended}
 use Rattle.scanline.specs.Answers.{spanRefusal}
@@ -29,14 +30,7 @@ use Rattle.scanline_intersections.specs.Segments.{spansFrom}
 use Rattle.scanline_intersections.specs.Merging.{walkOf, mergedNext, nextMerged}
 use Rattle.scanline_intersections.specs.Answers.{startRefusal, polylineStart, nextRefusal, nextAnswer}
 
--- ---- the first of two refusals
-
--- a number that only the first can be
-first-exactly : {first second m : ℕ} → (0 ≡ m → ⊥) → (second ≡ m → ⊥) → (t : Bool) → eqb first 0 ≡ t → (cond t second first ≡ m) ↔ (first ≡ m)
-first-exactly some other true e = (λ h. absurd (other h), λ h. absurd (some (sym (eqb-true _ 0 e) ∙ h)))
-first-exactly some other false e = (λ h. h, λ h. h)
-
--- a number that only the second can be
+-- a number that only the second of two refusals can be
 second-exactly : {Q : Type 0} {first second m : ℕ} → (first ≡ m → (first ≡ 0 → ⊥) → ⊥) → (second ≡ m) ↔ Q → (t : Bool) → eqb first 0 ≡ t → (cond t second first ≡ m) ↔ ((first ≡ 0) × Q)
 second-exactly other q true e = (λ h. (eqb-true _ 0 e, q .0 h), λ h. q .1 (h .1))
 second-exactly {first} other q false e = (λ h. absurd (other h (eqb-false first 0 e)), λ h. absurd (eqb-false first 0 e (h .0)))
@@ -84,7 +78,7 @@ module _ (limits : Limits) (cs : List ℤ) where
     -- any number but 6 as of the list and the width: 1 to 4, and 12
     pub start-list : {m : ℕ} → 0 < m → m ≢ 6 → (startRefusal limits cs w row ≡ m) ↔ (list w ≡ m)
     unfolding startRefusal
-    start-list some six = first-exactly (λ e. omega (arith, e)) (never inside (λ e. omega (arith, e)) (λ e. six (sym e))) (eqb (list w) 0) refl
+    start-list some six = or-before (list w) (cond inside 0 6) some (never inside (λ e. omega (arith, e)) (λ e. six (sym e)))
 
     start-later : {Q : Type 0} {m : ℕ} → (list w ≡ m → (list w ≡ 0 → ⊥) → ⊥) → (cond inside 0 6 ≡ m) ↔ Q → (startRefusal limits cs w row ≡ m) ↔ (fine w × Q)
     unfolding startRefusal
@@ -123,7 +117,7 @@ module _ (limits : Limits) (cs : List ℤ) where
     -- any number but 5, 6 and 7 as of the list and the width: 1 to 4, and 12
     pub next-list : {m : ℕ} → 0 < m → m ≢ 5 → m ≢ 6 → m ≢ 7 → (nextRefusal limits cs walk ≡ m) ↔ (list w ≡ m)
     unfolding nextRefusal
-    next-list some five six seven = first-exactly (λ e. omega (arith, e)) (never near (span-never some six seven) (λ e. five (sym e))) (eqb (list w) 0) refl
+    next-list some five six seven = or-before (list w) rest some (never near (span-never some six seven) (λ e. five (sym e)))
 
     next-later : {Q : Type 0} {m : ℕ} → (list w ≡ m → (list w ≡ 0 → ⊥) → ⊥) → (rest ≡ m) ↔ Q → (nextRefusal limits cs walk ≡ m) ↔ (fine w × Q)
     unfolding nextRefusal

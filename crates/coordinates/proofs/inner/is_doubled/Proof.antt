@@ -70,20 +70,4 @@ returns-2 c =
     sym (some-end (isRepeated (l .before .before .before .args .coordinates .now)) (l .before .segments-of .result) (l .loop .place) (omega arith)) ∙ l .loop .inv .1
 
 pub is-doubled-spec : {M : Type 1} → statement M
-is-doubled-spec =
-    tie.close
-    (tie.spec
-    Inv-loop
-    μ-loop
-    (λ c κs. search needs)
-    (λ c κs. search needs)
-    loop-holds
-    point-at-requires
-    place-after-requires
-    point-at-requires-2
-    (λ c κs. search needs)
-    returns
-    (λ c. search needs)
-    (λ c. omega arith)
-    loop-again
-    returns-2)
+is-doubled-spec = tie.close (tie.spec Inv-loop μ-loop (λ c κs. search needs) (λ c κs. search needs) loop-holds point-at-requires place-after-requires point-at-requires-2 (λ c κs. search needs) returns (λ c. search needs) (λ c. omega arith) loop-again returns-2)
