@@ -1,4 +1,4 @@
-"""The questions answered from document 01, over exact numbers, with its limits and refusals.
+"""The questions answered from document 01, over exact numbers, with its limits and refusals, and 12 of document 02.
 
 The rules stand in `plane.py`, `strokes.py`, `joins.py`, `segments.py`, `walks.py` and
 `route_files.py`; here is what each kind of question asks for. Import `answer`, or run it as
@@ -24,7 +24,7 @@ LISTED = "pt"
 
 
 class Refused(Exception):
-    """Carries a number of document 01's table."""
+    """Carries a number of document 01's table, or 12."""
 
 
 def refuse(number, when):

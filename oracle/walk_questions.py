@@ -216,7 +216,7 @@ def limits():
 
 
 def orders():
-    """Two or more refusals at once: the first of 01's table is told."""
+    """Two or more refusals at once: the first is told, in the order of 01's table with 12 after 4."""
     too_many = [0, 1] * (MOST + 1)
     for kind in KINDS:
         row = ROWS + 1 if kind == "M" else 0

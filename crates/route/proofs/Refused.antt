@@ -1,5 +1,5 @@
--- Refusals of a route, of its row and of the row's entry, each exactly when 01's table says, in its order. No accepted list of coordinates is
--- known that meets 5. Assumes nothing.
+-- Refusals of a route, of its row and of the row's entry, each exactly when 01's table with K6's 12 says, in its order. No accepted list of
+-- coordinates is known that meets 5. Assumes nothing.
 use mathlib.Core.Path.{_≡_, refl, sym, _∙_}
 use mathlib.Core.Logic.{_↔_, _≢_, _⊎_, inl, inr, ⊎-elim}
 use mathlib.Core.Bool.{Bool, true, false, cond}

@@ -1,4 +1,4 @@
--- What the refusals say: each number exactly when it is the first of 01's table that holds. Assumes nothing.
+-- What the refusals say: each number exactly when it is the first that holds, in the order of 01's table with K6's 12. Assumes nothing.
 use mathlib.Core.Path.{_≡_, refl, sym}
 use mathlib.Core.Logic.{_↔_, _≢_}
 use mathlib.Core.Bool.{Bool, true, false, cond}

@@ -1,4 +1,4 @@
--- 01, "What each number says": each once, by name, in the order in which they are tested. 0 is none.
+-- 01, "What each number says", and K6's 12: each once, by name, in the order in which they are tested. 0 is none.
 use mathlib.Core.Bool.{cond}
 use Prim.Native.Nat.{ℕ}
 use lib.Dec.{eqb}

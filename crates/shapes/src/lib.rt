@@ -1,7 +1,7 @@
 //! Points, lines and sides, and the numbers that bound the work.
 pub mod inner; // inner.rt: what is worked out of them
 pub mod limits; // limits.rt: 01's table of numbers
-pub mod refusals; // refusals.rt: 01's table of refusals
+pub mod refusals; // refusals.rt: 01's table of refusals, with K6's 12
 pub mod spans; // spans.rt: whether a span is empty, and inside the columns
 pub mod strokes; // strokes.rt: widths, and what a stroke's input is refused with
 

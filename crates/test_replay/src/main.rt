@@ -25,7 +25,7 @@ fn main() {
 }
 
 fn answer_list(name: &[u8]) {
-    let mut questions = [0u8; 262144];
+    let mut questions = [0u8; 524288];
     let n = io::read_full(os::open_read(name), &mut questions);
     answer_all(&questions[..n]);
 }

@@ -1,7 +1,7 @@
 -- `coordinates::inner::is_doubled` meets its contract: the segments from here on have a doubled point where all do. Assumes nothing.
 use mathlib.Core.Path.{_≡_, sym, ap, _∙_}
-use mathlib.Core.Bool.{true, false}
-use Prim.Native.Nat.{_-_, _≤_, _<_}
+use mathlib.Core.Bool.{_||_}
+use Prim.Native.Nat.{_+_, _-_, _<_}
 use native.Mathlib.Omega.{arith}
 use borrow.Author.Needs.{needs}
 use Rattle.whole.specs.Places.{someFrom}
@@ -15,7 +15,7 @@ use Rattle.coordinates.proofs.inner.is_doubled.Tie as tie
 
 abbrev Inv-loop : tie.InvT-loop
 Inv-loop coordinates closed count segments place₀ place =
-    (place ≤ segments) × (someFrom (isRepeated coordinates) place (segments - place) ≡ isDoubled closed coordinates)
+    someFrom (isRepeated coordinates) place (segments - place) ≡ isDoubled closed coordinates
 
 abbrev μ-loop : tie.MeasureT-loop
 μ-loop coordinates closed count segments place₀ place = segments - place
@@ -32,16 +32,20 @@ begins c =
     let s = c .before .before in
     segment-inside (s .before .before .args .closed) (omega (arith, counted s))
 
--- what the test of its two points says
-here : (c : tie.After-same-point Inv-loop μ-loop) → let l = c .before .before .before .before .before in
-    isRepeated (l .before .before .before .args .coordinates .now) (l .loop .place) ≡ c .same-point .result
-here c = cc
+-- a point is doubled where the two points here are equal, or two of those after them
+here : (c : tie.After-same-point Inv-loop μ-loop) → let l = c .before .before .before .before .before in let a = l .before .before .before .args in
+    (c .same-point .result || someFrom (isRepeated (a .coordinates .now)) (l .loop .place + 1) (l .before .segments-of .result - (l .loop .place + 1))) ≡ isDoubled (a .closed) (a .coordinates .now)
+here c =
+    let l = c .before .before .before .before .before in
+    let a = l .before .before .before .args in
+    let same : isRepeated (a .coordinates .now) (l .loop .place) ≡ c .same-point .result = cc in
+    sym (some-next (isRepeated (a .coordinates .now)) (l .before .segments-of .result) (l .loop .place) (omega arith) (c .same-point .result) same) ∙ l .loop .inv
 
 loop-holds : tie.Need-loop-holds Inv-loop μ-loop
 unfolding isDoubled
 loop-holds c =
     let all : c .segments-of .result - 0 ≡ segmentsOf (c .before .before .args .closed) (pointCount (c .before .before .args .coordinates .now)) = omega (arith, counted c) in
-    (omega arith, rw all)
+    rw all
 
 point-at-requires : tie.Need-point-at-requires Inv-loop μ-loop
 point-at-requires c κs = begins c
@@ -53,21 +57,15 @@ point-at-requires-2 : tie.Need-point-at-requires-2 Inv-loop μ-loop
 point-at-requires-2 c κs = rw (c .place-after .ensures, c .before .before .before .before .before .point-count .ensures) (after-inside (begins (c .before .before)))
 
 returns : tie.Need-returns Inv-loop μ-loop
-returns c =
-    let l = c .before .before .before .before .before .before in
-    let a = l .before .before .before .args in
-    sym (some-next (isRepeated (a .coordinates .now)) (l .before .segments-of .result) (l .loop .place) (omega arith) true (here (c .before) ∙ c .if1 .taken)) ∙ l .loop .inv .1
+returns c = rw (c .if1 .taken) at (here (c .before))
 
 loop-again : tie.Need-loop-again Inv-loop μ-loop
-loop-again c =
-    let l = c .before .before .before .before .before .before in
-    let a = l .before .before .before .args in
-    (omega arith, sym (some-next (isRepeated (a .coordinates .now)) (l .before .segments-of .result) (l .loop .place) (omega arith) false (here (c .before) ∙ c .if1 .left)) ∙ l .loop .inv .1)
+loop-again c = rw (c .if1 .left) at (here (c .before))
 
 returns-2 : tie.Need-returns-2 Inv-loop μ-loop
 returns-2 c =
     let l = c .before in
-    sym (some-end (isRepeated (l .before .before .before .args .coordinates .now)) (l .before .segments-of .result) (l .loop .place) (omega arith)) ∙ l .loop .inv .1
+    sym (some-end (isRepeated (l .before .before .before .args .coordinates .now)) (l .before .segments-of .result) (l .loop .place) (omega arith)) ∙ l .loop .inv
 
 pub is-doubled-spec : {M : Type 1} → statement M
 is-doubled-spec = tie.close (tie.spec Inv-loop μ-loop (λ c κs. search needs) (λ c κs. search needs) loop-holds point-at-requires place-after-requires point-at-requires-2 (λ c κs. search needs) returns (λ c. search needs) (λ c. omega arith) loop-again returns-2)
