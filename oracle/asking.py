@@ -41,6 +41,11 @@ def one_changed(numbers, values):
         yield [*numbers[:position], value, *numbers[position + 1 :]]
 
 
+def doubled_at(points, place):
+    """The points with the one at a place twice."""
+    return [*points[: place + 1], *points[place:]]
+
+
 def listed(classes):
     """Pairs (class, question); a question keeps the first class that asks it."""
     once = {}

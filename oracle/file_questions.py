@@ -9,7 +9,7 @@ from typing import NamedTuple
 
 import driver
 import smallest_joins
-from asking import DIRECTIONS, listed, point_within, scaled
+from asking import DIRECTIONS, doubled_at, listed, point_within, scaled
 from exact import flat, paired, words
 from plane import plus
 from route_files import MOST_BYTES
@@ -180,23 +180,18 @@ def coordinates_past_the_limit():
     yield sharing(points, [(1, 2, 3, 0), (0, 3, 3, 0), (1, 3, 3, 0)])
 
 
-def put_in(points, place):
-    """The points with one of them twice."""
-    return [*points[: place + 1], *points[place:]]
-
-
 def doubled_points():
     """Refusal 12, after 2, 3 and 4 and before 8; near misses are drawn: a coordinate in common, a point that comes again."""
     for place, closed in product(range(3), (0, 1)):
-        yield file_of(LINE, Route(put_in(BEND.points, place), 2, closed), RING)
+        yield file_of(LINE, Route(doubled_at(BEND.points, place), 2, closed), RING)
     full, many = meander(33, 2, 4), [(i % 7, i % 5) for i in range(256)]
     for closed in (0, 1):
         yield file_of(Route([*RING.points, RING.points[0]], 2, closed), LINE)
         yield file_of(Route([(4, 4), (4, 4)], 65, closed), Route([(512, 0), (512, 0)], 3, closed), BEND)
         yield file_of(Route([(4, 4), (4, 4), (0, -512)], 3, closed), Route([(4, 4), (4, 4)], 3, closed))
         yield file_of(Route([(0, 0), (0, 5), (7, 5), (0, 5), (9, 5)], 1, closed), LINE)
-        yield file_of(Route(put_in(full, 65), 1, closed), Route(put_in(full, 0), 1, closed), LINE)
-        yield file_of(Route(put_in(many, 255), 1, closed), Route(put_in(many[1:], 254), 1, closed))
+        yield file_of(Route(doubled_at(full, 65), 1, closed), Route(doubled_at(full, 0), 1, closed), LINE)
+        yield file_of(Route(doubled_at(many, 255), 1, closed), Route(doubled_at(many[1:], 254), 1, closed))
     # Of three points that overlap, two are equal, or the first and the last are.
     points = [(0, 0), (5, 3), (5, 3), (-2, 6), (5, 3)]
     yield sharing(points, [(first, 3, 1, closed) for first in range(3) for closed in (0, 1)])

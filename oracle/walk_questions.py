@@ -9,7 +9,7 @@ from itertools import islice, product
 import exact
 import smallest_walks
 import walks
-from asking import DIRECTIONS, FAR, listed, one_changed, point_within, scaled
+from asking import DIRECTIONS, FAR, doubled_at, listed, one_changed, point_within, scaled
 from plane import plus
 
 SEED = 256257
@@ -117,11 +117,6 @@ def doubled(rng):
             yield from merged_of(rng, points, width, 1)
 
 
-def put_in(points, place):
-    """The points with one of them twice."""
-    return [*points[: place + 1], *points[place:]]
-
-
 def doubled_places():
     """Each place of short routes and of long ones; and near misses, which are drawn: neighbours that share one coordinate, a point
     that comes again later."""
@@ -131,10 +126,10 @@ def doubled_places():
         yield ask(kind, stairs, 2)
         yield ask(kind, [*stairs[:3], *stairs[:3]], 2)
         for place in range(len(stairs)):
-            yield ask(kind, put_in(stairs, place), 2)
+            yield ask(kind, doubled_at(stairs, place), 2)
         yield ask(kind, [*stairs, stairs[0]], 2)
         for place in (0, 1, 126, 127, MOST - 3, MOST - 2):
-            yield ask(kind, put_in(long, place), 0)
+            yield ask(kind, doubled_at(long, place), 0)
         yield ask(kind, [*long, long[0]], 0)
 
 
