@@ -160,6 +160,10 @@ module _ (k : ℕ) (closed : Bool) (cs : List ℤ) (w : ℤ) where
       let none = else-false (isDoubled closed cs) (λ e. single (doubled-exactly cs closed .0 e)) in
       let-through ∙ rw none (or-zero upToFour)
 
+  -- and where two are, the list is refused: nothing is asked after it
+  pub doubled-refused : Doubled closed cs → n ≢ 0
+  doubled-refused doubled e = accepted-exactly .0 e .single doubled
+
   -- a route of no point or of one is never refused with 12
   pub few-never : pointCount cs ≤ 1 → n ≡ 12 → ⊥
   few-never few e =

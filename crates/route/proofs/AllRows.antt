@@ -16,6 +16,8 @@ use Rattle.shapes.specs.Refusals.{orElse}
 use Rattle.thick_segment.specs.declared.Rows.{Rows}
 use Rattle.thick_segment.specs.Rows.{drawnRows}
 use Rattle.coordinates.specs.Points.{segmentsOf}
+use Rattle.coordinates.specs.Neighbours.{Doubled}
+use Rattle.coordinates.specs.Refusal.{routeRefusal}
 use Rattle.route_joins.specs.Joins.{segmentAt, segmentCount, joinCount}
 use Rattle.route.specs.declared.Joins.{Joins}
 use Rattle.route.specs.declared.RowRange.{RowRange}
@@ -30,7 +32,7 @@ use Rattle.route.proofs.Drawn.{room-or-full}
 use Rattle.route.proofs.Kept.{segments-all, segment-is}
 use Rattle.whole.proofs.Lists.{list-same}
 use Rattle.route.proofs.Ranges.{rows-near, row-within, row-between, place-of, count-none}
-use Rattle.route.proofs.Refused.{draw-none, draw-most, on-eight, row-eight-exactly}
+use Rattle.route.proofs.Refused.{draw-none, draw-most, doubled-later, on-eight, row-eight-exactly}
 
 -- ---- the rows of a route
 
@@ -215,3 +217,8 @@ module _ (limits : Limits) (closed : Bool) (cs : List ℤ) (w : ℤ) where
   pub whole-before : {m : ℕ} → 0 < m → m ≢ 8 → (wholeRefusal limits closed cs w ≡ m) ↔ (n ≡ m)
   unfolding wholeRefusal rowsRefusal
   whole-before some eight = or-before n all some (all-other some eight)
+
+  -- with a doubled point 8 is not asked
+  pub doubled-whole : Doubled closed cs → wholeRefusal limits closed cs w ≡ routeRefusal (limits .point) closed cs w
+  unfolding wholeRefusal rowsRefusal
+  doubled-whole = doubled-later limits closed cs w all

@@ -21,7 +21,8 @@ use Rattle.board.specs.declared.Run.{Run}
 use Rattle.board.specs.Boards.{live, told, listing, notListed}
 use Rattle.board_laws.specs.Histories.{boardAfter}
 use Rattle.coordinates.specs.Refusal.{routeRefusal, Accepted}
-use Rattle.coordinates.proofs.Laws.{accepted-exactly, refused-most}
+use Rattle.coordinates.specs.Neighbours.{Doubled}
+use Rattle.coordinates.proofs.Laws.{accepted-exactly, refused-most, doubled-refused}
 use Rattle.route_joins.specs.Joins.{joinAt, joinCount, areJoinsNear}
 use Rattle.route_joins.proofs.Near.{joins-exactly}
 use Rattle.route.specs.declared.Joins.{Joins}
@@ -30,7 +31,7 @@ use Rattle.route.specs.Joined.{joinsOf}
 use Rattle.route.specs.Rows.{boardOn}
 use Rattle.route.specs.Words.{spansOn, offering, Crowded}
 use Rattle.route.specs.Answers.{drawRefusal, noListing, listingOf, refusalOn, answerOn, rowRefusal, rowAnswer}
-use Rattle.shapes.proofs.Choices.{or-none, or-either, or-later, or-before}
+use Rattle.shapes.proofs.Choices.{or-stopped, or-none, or-either, or-later, or-before}
 use Rattle.route.proofs.Drawn.{room-or-full, row-reached, row-eight}
 
 -- ---- 1 to 4, 12 and 5
@@ -82,6 +83,14 @@ module _ (limits : Limits) (closed : Bool) (cs : List ℤ) (w : ℤ) where
   draw-most high twelve e =
       ⊎-elim (refused-most (limits .point) closed cs w (omega arith) twelve) (λ s. never near (λ z. omega (arith, z)) (λ z. omega (arith, z)) (s .1))
       (or-either before (cond near 0 5) (omega arith) .0 e)
+
+  -- a route with a doubled point is refused as its list is: 5 is not asked, nor what comes after it
+  pub doubled-draw : Doubled closed cs → drawRefusal limits closed cs w ≡ before
+  unfolding drawRefusal
+  doubled-draw doubled = or-stopped before (cond near 0 5) (doubled-refused (limits .point) closed cs w doubled)
+
+  pub doubled-later : (later : ℕ) → Doubled closed cs → orElse (drawRefusal limits closed cs w) later ≡ before
+  doubled-later later doubled = let told = doubled-draw doubled in rw told (or-stopped before later (doubled-refused (limits .point) closed cs w doubled))
 
 -- ---- a row of joins that are kept: 6 exactly when it is outside, then 8 exactly when it has no room
 
@@ -154,6 +163,11 @@ module _ (limits : Limits) (closed : Bool) (cs : List ℤ) (w row : ℤ) where
       let both = or-none d on in
       let free = on-none (limits .corner) joins row in
       (λ e. (both .0 e .0, free .0 (both .0 e .1)), λ h. both .1 (h .0, free .1 (h .1)))
+
+  -- with a doubled point 6 and 8 are not asked
+  pub doubled-row : Doubled closed cs → rowRefusal limits closed cs w row ≡ routeRefusal (limits .point) closed cs w
+  unfolding rowRefusal
+  doubled-row = doubled-later limits closed cs w on
 
   pub none-reached : rowRefusal limits closed cs w row ≡ 0 → drawn .board ≡ boardAfter (limits .corner) row (offering (spansOn closed cs w row))
   none-reached e =

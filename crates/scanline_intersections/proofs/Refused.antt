@@ -13,14 +13,15 @@ use Rattle.whole.proofs.Laws.{within-iff}
 use Rattle.whole.proofs.Tests.{eqb-iff, Chosen, chosen, never, bad-first, good-first, good-later}
 use Rattle.shapes.specs.declared.limits.Limits.{Limits}
 use Rattle.shapes.specs.Spans.{isSpanSound, SpanSound}
-use Rattle.shapes.proofs.Choices.{or-before}
+use Rattle.shapes.proofs.Choices.{or-stopped, or-before}
 use Rattle.shapes.specs.declared.Span.{Span}
 use Rattle.scanline.specs.Spans.{newSpan, tryExtended}
 use Rattle.scanline.specs.Answers.{spanRefusal}
 use Rattle.scanline.proofs.Answers.{span-six, span-seven, span-none}
 use Rattle.line_join.specs.Caps.{JoinNear}
 use Rattle.coordinates.specs.Refusal.{routeRefusal, Accepted}
-use Rattle.coordinates.proofs.Laws.{refused-most, accepted-exactly}
+use Rattle.coordinates.specs.Neighbours.{Doubled}
+use Rattle.coordinates.proofs.Laws.{refused-most, accepted-exactly, doubled-refused}
 use Rattle.route_joins.specs.Joins.{joinAt, joinCount, areJoinsNear}
 use Rattle.route_joins.proofs.Near.{joins-exactly}
 use Rattle.route_joins.proofs.Walks.{refusal-told}
@@ -80,6 +81,11 @@ module _ (limits : Limits) (cs : List ℤ) where
     unfolding startRefusal
     start-list some six = or-before (list w) (cond inside 0 6) some (never inside (λ e. omega (arith, e)) (λ e. six (sym e)))
 
+    -- with a doubled point 6 is not asked
+    pub doubled-start : Doubled false cs → startRefusal limits cs w row ≡ list w
+    unfolding startRefusal
+    doubled-start doubled = or-stopped (list w) (cond inside 0 6) (doubled-refused (limits .point) false cs w doubled)
+
     start-later : {Q : Type 0} {m : ℕ} → (list w ≡ m → (list w ≡ 0 → ⊥) → ⊥) → (cond inside 0 6 ≡ m) ↔ Q → (startRefusal limits cs w row ≡ m) ↔ (fine w × Q)
     unfolding startRefusal
     start-later o q = replaced (accepted-exactly (limits .point) false cs w) (second-exactly o q (eqb (list w) 0) refl)
@@ -118,6 +124,11 @@ module _ (limits : Limits) (cs : List ℤ) where
     pub next-list : {m : ℕ} → 0 < m → m ≢ 5 → m ≢ 6 → m ≢ 7 → (nextRefusal limits cs walk ≡ m) ↔ (list w ≡ m)
     unfolding nextRefusal
     next-list some five six seven = or-before (list w) rest some (never near (span-never some six seven) (λ e. five (sym e)))
+
+    -- with a doubled point 5 to 7 are not asked
+    pub doubled-next : Doubled false cs → nextRefusal limits cs walk ≡ list w
+    unfolding nextRefusal
+    doubled-next doubled = or-stopped (list w) rest (doubled-refused (limits .point) false cs w doubled)
 
     next-later : {Q : Type 0} {m : ℕ} → (list w ≡ m → (list w ≡ 0 → ⊥) → ⊥) → (rest ≡ m) ↔ Q → (nextRefusal limits cs walk ≡ m) ↔ (fine w × Q)
     unfolding nextRefusal
