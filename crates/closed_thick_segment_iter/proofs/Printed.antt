@@ -1,5 +1,5 @@
 -- The segments of the printed closed iterator are those of the closed walk. Assumes nothing.
-use mathlib.Core.Path.{_≡_, refl, sym, ap}
+use mathlib.Core.Path.{_≡_, refl, sym, ap, _∙_}
 use mathlib.Core.Logic.{_≢_}
 use mathlib.Core.Bool.{true, false}
 use mathlib.Core.List.{[], _∷_, List}
@@ -18,6 +18,7 @@ use Rattle.line_join.specs.declared.Join.{Join}
 use Rattle.line_join.specs.Join.{startOf, joinOf}
 use Rattle.coordinates.specs.Points.{pointAt, pointCount, pointsOf, placeAfter, placeBefore, segmentsOf}
 use Rattle.coordinates.proofs.Lists.{points-in-turn, last-two}
+use Rattle.coordinates.proofs.Places.{after-inner, after-last}
 use Rattle.route_joins.specs.Joins.{bendAt, closedJoin, joinOn, endPlace, segmentOf, segmentCount, closedSegment, closedCount}
 use Rattle.closed_thick_segment_iter.specs.Printed.{between, Known, Iterator, pastWindows, turned, answered, closedSegments}
 
@@ -39,12 +40,10 @@ module _ (cs : List ℤ) (w : ℤ) (o : Offset) where
       rw (ne-eqb (n + suc k) 2 (λ z. omega (arith, z, some)), e, ne-eqb (suc k) 0 (λ z. omega arith), back)
 
   on : (k : ℕ) → suc k < n → placeAfter n k ≡ suc k
-  unfolding placeAfter
-  on k h = rw (add-one k, ne-eqb (suc k) n (λ z. omega (arith, z, h)))
+  on k h = after-inner n k (omega arith) ∙ add-one k
 
   round : (k : ℕ) → suc k ≡ n → placeAfter n k ≡ 0
-  unfolding placeAfter
-  round k e = rw (add-one k, eq-eqb (suc k) n e)
+  round k e = after-last n k (omega (arith, e))
 
   segment-to : (k m : ℕ) → placeAfter n k ≡ m → closedSegment cs w o k ≡ between (at k) (at m)
   unfolding segmentOf joinOn endPlace

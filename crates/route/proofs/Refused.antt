@@ -11,7 +11,7 @@ use lib.IntN.{ℤ}
 use lib.ListN.{length}
 use Rattle.whole.specs.Number.{Within, isWithin}
 use Rattle.whole.proofs.Laws.{within-iff}
-use Rattle.whole.proofs.Tests.{never, bad-first, good-first, good-later, leb-iff}
+use Rattle.whole.proofs.Tests.{replaced, never, bad-first, good-first, good-later, leb-iff}
 use Rattle.shapes.specs.declared.limits.Limits.{Limits}
 use Rattle.shapes.specs.Refusals.{orElse}
 use Rattle.line_join.specs.Caps.{JoinNear}
@@ -31,7 +31,7 @@ use Rattle.route.specs.Joined.{joinsOf}
 use Rattle.route.specs.Rows.{boardOn}
 use Rattle.route.specs.Words.{spansOn, offering, Crowded}
 use Rattle.route.specs.Answers.{drawRefusal, noListing, listingOf, refusalOn, answerOn, rowRefusal, rowAnswer}
-use Rattle.shapes.proofs.Choices.{or-stopped, or-none, or-either, or-later, or-before}
+use Rattle.shapes.proofs.Choices.{or-stopped, or-after, or-either, or-later, or-before}
 use Rattle.route.proofs.Drawn.{room-or-full, row-reached, row-eight}
 
 -- ---- 1 to 4, 12 and 5
@@ -55,22 +55,14 @@ module _ (limits : Limits) (closed : Bool) (cs : List ℤ) (w : ℤ) where
 
   pub draw-none : (drawRefusal limits closed cs w ≡ 0) ↔ (Accepted (limits .point) closed cs w × Near)
   unfolding drawRefusal
-  draw-none =
-      let both = or-none before (cond near 0 5) in
-      let five = bad-first near {n = 0} {rest = 5} near-exactly (λ e. omega arith) in (
-        λ e. (taken-exactly .0 (both .0 e .0), five .0 (both .0 e .1)),
-        λ h. both .1 (taken-exactly .1 (h .0), five .1 (h .1)),
-      )
+  draw-none = replaced taken-exactly (or-after before (cond near 0 5) (λ z no. no z) (bad-first near near-exactly (λ e. omega arith)))
 
   -- 5 exactly when nothing was refused before, and some join has a corner beyond the limit
   pub draw-five : (drawRefusal limits closed cs w ≡ 5) ↔ (Accepted (limits .point) closed cs w × (Near → ⊥))
   unfolding drawRefusal
   draw-five =
-      let later = or-later before (cond near 0 5) {m = 5} (omega arith) (refused-most (limits .point) closed cs w (omega arith) (λ e. omega arith)) in
-      let five = good-first near {n = 5} {rest = 0} near-exactly (λ e. omega arith) in (
-        λ e. (taken-exactly .0 (later .0 e .0), five .0 (later .0 e .1)),
-        λ h. later .1 (taken-exactly .1 (h .0), five .1 (h .1)),
-      )
+      replaced taken-exactly
+      (or-after before (cond near 0 5) (λ e _. refused-most (limits .point) closed cs w (omega arith) (λ e. omega arith) e) (good-first near near-exactly (λ e. omega arith)))
 
   -- any other number exactly when the list and the width are refused with it: 1 to 4, and 12
   pub draw-before : {m : ℕ} → 0 < m → m ≢ 5 → (drawRefusal limits closed cs w ≡ m) ↔ (before ≡ m)
@@ -134,10 +126,7 @@ module _ (limits : Limits) (closed : Bool) (cs : List ℤ) (w row : ℤ) where
 
   pub row-six : (rowRefusal limits closed cs w row ≡ 6) ↔ ((d ≡ 0) × (Within row (limits .corner) → ⊥))
   unfolding rowRefusal
-  row-six =
-      let later = or-later d on {m = 6} (omega arith) (draw-most limits closed cs w (omega arith) (λ e. omega arith)) in
-      let six = on-six (limits .corner) joins row in
-      (λ e. (later .0 e .0, six .0 (later .0 e .1)), λ h. later .1 (h .0, six .1 (h .1)))
+  row-six = or-after d on (λ e _. draw-most limits closed cs w (omega arith) (λ e. omega arith) e) (on-six (limits .corner) joins row)
 
   pub row-eight-exactly : (rowRefusal limits closed cs w row ≡ 8) ↔ ((d ≡ 0) × (Within row (limits .corner) × Crowded (spansOn closed cs w row)))
   unfolding rowRefusal
@@ -159,10 +148,7 @@ module _ (limits : Limits) (closed : Bool) (cs : List ℤ) (w row : ℤ) where
   -- not refused: the route is not, the row is inside, and its board has room
   pub row-none : (rowRefusal limits closed cs w row ≡ 0) ↔ ((d ≡ 0) × (Within row (limits .corner) × (drawn .refusal ≡ 0)))
   unfolding rowRefusal
-  row-none =
-      let both = or-none d on in
-      let free = on-none (limits .corner) joins row in
-      (λ e. (both .0 e .0, free .0 (both .0 e .1)), λ h. both .1 (h .0, free .1 (h .1)))
+  row-none = or-after d on (λ z no. no z) (on-none (limits .corner) joins row)
 
   -- with a doubled point 6 and 8 are not asked
   pub doubled-row : Doubled closed cs → rowRefusal limits closed cs w row ≡ routeRefusal (limits .point) closed cs w
@@ -222,12 +208,7 @@ module _ (limits : Limits) (closed : Bool) (cs : List ℤ) (w row : ℤ) (len : 
   answer-number = chosen-number (drawRefusal limits closed cs w) (refusalOn (limits .corner) (joinsOf (limits .corner) closed cs w) row) (listingOf (told b len))
 
   pub answer-none : (a ≡ 0) ↔ ((r ≡ 0) × (2 * length runs ≤ len))
-  answer-none =
-      let both = or-none r (told b len .refusal) in
-      let room = told-none b len in (
-        λ e. let z = both .0 (sym answer-number ∙ e) in (z .0, room .0 (z .1)),
-        λ h. answer-number ∙ both .1 (h .0, room .1 (h .1)),
-      )
+  answer-none = rw answer-number (or-after r (told b len .refusal) (λ z no. no z) (told-none b len))
 
   pub answer-eight : (a ≡ 8) ↔ ((r ≡ 8) ⊎ ((r ≡ 0) × (2 * length runs ≤ len → ⊥)))
   answer-eight = rw (answer-number) (either-by (or-either r (told b len .refusal) {m = 8} (omega arith)) (told-eight b len))

@@ -5,15 +5,14 @@ use mathlib.Core.Bool.{Bool, true, false, cond}
 use mathlib.Core.List.{List, [], _∷_}
 use Prim.Native.Nat.{ℕ, _+_, _<_}
 use native.Mathlib.Omega.{arith}
-use borrow.Author.Tests.{eqb-true, eqb-false}
 use lib.Dec.{eqb}
 use lib.IntN.{ℤ, pos}
 use Rattle.whole.specs.Number.{Within, isWithin}
 use Rattle.whole.proofs.Laws.{within-iff}
-use Rattle.whole.proofs.Tests.{eqb-iff, Chosen, chosen, never, bad-first, good-first, good-later}
+use Rattle.whole.proofs.Tests.{replaced, eqb-iff, Chosen, chosen, never, bad-first, good-first, good-later}
 use Rattle.shapes.specs.declared.limits.Limits.{Limits}
 use Rattle.shapes.specs.Spans.{isSpanSound, SpanSound}
-use Rattle.shapes.proofs.Choices.{or-stopped, or-before}
+use Rattle.shapes.proofs.Choices.{or-stopped, or-after, or-before}
 use Rattle.shapes.specs.declared.Span.{Span}
 use Rattle.scanline.specs.Spans.{newSpan, tryExtended}
 use Rattle.scanline.specs.Answers.{spanRefusal}
@@ -30,14 +29,6 @@ use Rattle.scanline_intersections.specs.declared.Merged.{Merged}
 use Rattle.scanline_intersections.specs.Segments.{spansFrom}
 use Rattle.scanline_intersections.specs.Merging.{walkOf, mergedNext, nextMerged}
 use Rattle.scanline_intersections.specs.Answers.{startRefusal, polylineStart, nextRefusal, nextAnswer}
-
--- a number that only the second of two refusals can be
-second-exactly : {Q : Type 0} {first second m : ℕ} → (first ≡ m → (first ≡ 0 → ⊥) → ⊥) → (second ≡ m) ↔ Q → (t : Bool) → eqb first 0 ≡ t → (cond t second first ≡ m) ↔ ((first ≡ 0) × Q)
-second-exactly other q true e = (λ h. (eqb-true _ 0 e, q .0 h), λ h. q .1 (h .1))
-second-exactly {first} other q false e = (λ h. absurd (other h (eqb-false first 0 e)), λ h. absurd (eqb-false first 0 e (h .0)))
-
-pub replaced : {A P P' Q : Type 0} → P ↔ P' → A ↔ (P × Q) → A ↔ (P' × Q)
-replaced p e = (λ h. (p .0 (e .0 h .0), e .0 h .1), λ h. e .1 (p .1 (h .0), h .1))
 
 -- what is merged is no refusal
 merged-by : (t : Bool) (a b : Merged) → a .refusal ≡ 0 → b .refusal ≡ 0 → cond t a b .refusal ≡ 0
@@ -88,7 +79,7 @@ module _ (limits : Limits) (cs : List ℤ) where
 
     start-later : {Q : Type 0} {m : ℕ} → (list w ≡ m → (list w ≡ 0 → ⊥) → ⊥) → (cond inside 0 6 ≡ m) ↔ Q → (startRefusal limits cs w row ≡ m) ↔ (fine w × Q)
     unfolding startRefusal
-    start-later o q = replaced (accepted-exactly (limits .point) false cs w) (second-exactly o q (eqb (list w) 0) refl)
+    start-later o q = replaced (accepted-exactly (limits .point) false cs w) (or-after (list w) (cond inside 0 6) o q)
 
     -- then 6: the row is outside
     pub start-6 : (startRefusal limits cs w row ≡ 6) ↔ (fine w × (Within row (limits .corner) → ⊥))
@@ -132,7 +123,7 @@ module _ (limits : Limits) (cs : List ℤ) where
 
     next-later : {Q : Type 0} {m : ℕ} → (list w ≡ m → (list w ≡ 0 → ⊥) → ⊥) → (rest ≡ m) ↔ Q → (nextRefusal limits cs walk ≡ m) ↔ (fine w × Q)
     unfolding nextRefusal
-    next-later o q = replaced (accepted-exactly (limits .point) false cs w) (second-exactly o q (eqb (list w) 0) refl)
+    next-later o q = replaced (accepted-exactly (limits .point) false cs w) (or-after (list w) rest o q)
 
     -- then 5: some join of the route has a corner outside
     pub next-5 : (nextRefusal limits cs walk ≡ 5) ↔ (fine w × (JoinsNear w → ⊥))

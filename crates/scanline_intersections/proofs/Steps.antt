@@ -8,6 +8,7 @@ use Prim.Native.Nat.{ℕ, _+_, _<_}
 use lib.IntN.{ℤ}
 use lib.ListN.{getD}
 use Rattle.whole.specs.Number.{Within}
+use Rattle.whole.proofs.Tests.{replaced}
 use Rattle.shapes.specs.declared.limits.Limits.{Limits}
 use Rattle.shapes.specs.declared.Offset.the-variants.{None}
 use Rattle.scanline.specs.Spans.{newSpan}
@@ -26,7 +27,7 @@ use Rattle.scanline_intersections.specs.Merging.{walkOf}
 use Rattle.scanline_intersections.specs.Polyline.{polylineSegments}
 use Rattle.scanline_intersections.specs.Answers.{polylineStart, polylineStep, afterPolyline}
 use Rattle.scanline_intersections.proofs.Polyline.{polyline-at}
-use Rattle.scanline_intersections.proofs.Refused.{replaced, start-sound, start-chosen}
+use Rattle.scanline_intersections.proofs.Refused.{start-sound, start-chosen}
 
 -- ---- many steps, from a start that is not refused
 

@@ -29,11 +29,15 @@ module _ (first second : ℕ) where
       by true e = inl (eqb-true first 0 e)
       by false e = inr (eqb-false first 0 e)
 
-  pub or-none : (orElse first second ≡ 0) ↔ ((first ≡ 0) × (second ≡ 0))
-  or-none = (
-    λ e. ⊎-elim (λ z. (z, sym (or-free z) ∙ e)) (λ other. absurd (other (sym (or-stopped other) ∙ e))) zero-or-not,
-    λ z. or-free (z .0) ∙ z .1,
+  -- the second, where the first lets through: for a number that the first never is, or is where there is none
+  pub or-after : {Q : Type 0} {m : ℕ} → (first ≡ m → (first ≡ 0 → ⊥) → ⊥) → (second ≡ m) ↔ Q → (orElse first second ≡ m) ↔ ((first ≡ 0) × Q)
+  or-after other q = (
+    λ e. ⊎-elim (λ z. (z, q .0 (sym (or-free z) ∙ e))) (λ no. absurd (other (sym (or-stopped no) ∙ e) no)) zero-or-not,
+    λ h. or-free (h .0) ∙ q .1 (h .1),
   )
+
+  pub or-none : (orElse first second ≡ 0) ↔ ((first ≡ 0) × (second ≡ 0))
+  or-none = or-after (λ z no. no z) (λ e. e, λ e. e)
 
   module _ {m : ℕ} (some : 0 < m) where
     pub or-either : (orElse first second ≡ m) ↔ ((first ≡ m) ⊎ ((first ≡ 0) × (second ≡ m)))
@@ -44,7 +48,7 @@ module _ (first second : ℕ) where
 
     -- the first is never this number, or the second is not
     pub or-later : (first ≡ m → ⊥) → (orElse first second ≡ m) ↔ ((first ≡ 0) × (second ≡ m))
-    or-later never = (λ e. ⊎-elim (λ f. absurd (never f)) (λ s. s) (or-either .0 e), λ s. or-either .1 (inr s))
+    or-later never = or-after (λ f _. never f) (λ e. e, λ e. e)
 
     pub or-before : (second ≡ m → ⊥) → (orElse first second ≡ m) ↔ (first ≡ m)
     or-before never = (λ e. ⊎-elim (λ f. f) (λ s. absurd (never (s .1))) (or-either .0 e), λ f. or-either .1 (inl f))

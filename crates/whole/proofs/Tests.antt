@@ -9,6 +9,10 @@ use lib.Dec.{T, ltb, leb, eqb, ltb→lt, lt→ltb, eqb→eq, eqb-refl}
 use lib.IntN.{ℤ}
 use lib.Signed.{ltZ, leZ, _<ℤ_, _≤ℤ_}
 
+-- the first of two that hold together, in other words
+pub replaced : {A P P' Q : Type 0} → P ↔ P' → A ↔ (P × Q) → A ↔ (P' × Q)
+replaced p e = (λ h. (p .0 (e .0 h .0), e .0 h .1), λ h. e .1 (p .1 (h .0), h .1))
+
 pub and-left : (a b : Bool) → (a && b) ≡ true → a ≡ true
 and-left true b e = refl
 and-left false b e = e
