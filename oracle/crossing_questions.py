@@ -11,7 +11,7 @@ import exact
 import smallest
 from asking import DIRECTIONS, FAR, listed, one_changed, point_within, scaled
 from asking import placed as placed_within
-from plane import crossing_of, determinant, dot, plus
+from plane import crossing_of, determinant, division_of, dot, plus
 
 SEED = 8556422127
 LIMIT = exact.CROSSING_LIMIT
@@ -21,10 +21,10 @@ TWO_LINES = "cn"
 
 # From document 01, "Corners with numbers". P7 asks for any second line: three are taken.
 WORKED = [
-    ("c 0 0 4 0 2 -2 2 2", "2 0 Right"),
-    ("c 2 -2 2 2 0 0 4 0", "2 0 Left"),
-    ("c 0 0 1 1 0 1 1 0", "1 1 Left"),
-    ("c 0 0 -1 -1 0 -1 -1 0", "-1 -1 Left"),
+    ("c 0 0 4 0 2 -2 2 2", "2 0 Right EE"),
+    ("c 2 -2 2 2 0 0 4 0", "2 0 Left EE"),
+    ("c 0 0 1 1 0 1 1 0", "1 1 Left HH"),
+    ("c 0 0 -1 -1 0 -1 -1 0", "-1 -1 Left HH"),
     ("c 0 0 4 0 0 1 4 1", "Colinear"),
     ("c 3 3 3 3 0 0 4 0", "Colinear"),
     ("c 3 3 3 3 3 3 -1023 1023", "Colinear"),
@@ -33,7 +33,12 @@ WORKED = [
     ("n 0 0 1 0 0 0 2 1", "true"),
     ("s 0 0 10 0 5 -1", "true false"),
     ("s 0 0 10 0 5 0", "true true"),
+    # By hand, for K4 of document 02: (3/4, 1/4), (-3, -1/2) and (1/3, -1/2).
+    ("c 0 0 3 1 0 1 1 0", "1 0 Left RR"),
+    ("c -3 0 -3 -4 -4 0 -2 -1", "-3 -1 Right EH"),
+    ("c 0 0 2 -3 0 -1 2 2", "0 -1 Right RH"),
 ]
+
 
 def ask(kind, *points):
     return exact.words(kind, *exact.flat(points))
@@ -192,6 +197,20 @@ def beside_halves(rng):
                 yield ask("c", *mirrored(flipped))
 
 
+def ways_out(rng):
+    """Each pair of ways in which the coordinates come out, with each sign of both and of the determinant."""
+    asked = set()
+    while len(asked) < 72:
+        points = [point_within(rng, 9) for _ in range(4)]
+        found = crossing_of(points[:2], points[2:])
+        if found is None or 0 in found:
+            continue
+        way = *map(division_of, found[:2]), *(number < 0 for number in found)
+        if way not in asked:
+            asked.add(way)
+            yield ask("c", *points)
+
+
 def right_angle_legs():
     """Corners on both sides of the determinant whose square leaves i32: 46,340 and 46,341."""
     legs = [(leg, leg) for leg in range(214, 219)] + list(smallest.LEGS_AT_THE_EDGE)
@@ -310,6 +329,7 @@ def questions():
     }
     for size in (3, 10, 100, LIMIT):
         classes[f"random within {size}"] = random_within(rng, size)
+    classes["ways out, all signs"] = ways_out(random.Random(SEED))
     return listed(classes)
 
 

@@ -1,4 +1,4 @@
-"""The questions answered from document 01, over exact numbers, with its limits and refusals, and 12 of document 02.
+"""The questions answered from document 01, over exact numbers, with its limits and refusals, and K4 and K6 of document 02.
 
 The rules stand in `plane.py`, `strokes.py`, `joins.py`, `segments.py`, `walks.py` and
 `route_files.py`; here is what each kind of question asks for. Import `answer`, or run it as
@@ -90,8 +90,8 @@ def crossing(*numbers):
     found = rounded_crossing(*two_lines(numbers))
     if found is None:
         return "Colinear"
-    point, side = found
-    return words(*point, side)
+    point, side, divisions = found
+    return words(*point, side, divisions)
 
 
 def nearly_colinear_lines(*numbers):
@@ -136,7 +136,7 @@ def refuse_corners(*found):
 
 def join_words(join):
     refuse_corners(join)
-    return words(join.kind, *flat(join.corners()))
+    return words(join.kind, *flat(join.corners()), *join.origins)
 
 
 def start_join(*numbers):

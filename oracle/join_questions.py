@@ -25,9 +25,9 @@ JOIN_KINDS = range(len(joins.KINDS))
 
 # P10 of document 01, and the miter of a right angle by hand.
 WORKED = [
-    ("j 0 0 216 0 216 216 3 0", "Miter 217 -1 215 1 217 -1 215 1"),
-    ("a 0 0 3 0 3 0", "Start 0 -1 0 1 0 -1 0 1"),
-    ("z 0 0 3 0 3 0", "End 3 -1 3 1 3 -1 3 1"),
+    ("j 0 0 216 0 216 216 3 0", "Miter 217 -1 215 1 217 -1 215 1 EE EE"),
+    ("a 0 0 3 0 3 0", "Start 0 -1 0 1 0 -1 0 1 - -"),
+    ("z 0 0 3 0 3 0", "End 3 -1 3 1 3 -1 3 1 - -"),
     ("f 7 3 -1 3 1 3 -1 3 1", "none | 1 3 -1 3 1 | 1 3 -1 3 1 | false"),
 ]
 
@@ -175,6 +175,17 @@ def random_join(rng, size):
     return ask("j", random_points(rng, 3, size), any_width(rng), rng.choice(OFFSETS))
 
 
+def origins(rng):
+    """Each kind with each pair of origins that 40,000 small bends have."""
+    asked = set()
+    for _ in range(40000):
+        points, width, offset = random_points(rng, 3, 12), rng.randint(1, 9), rng.choice(OFFSETS)
+        join = joins.between(*points, width, NAMED_OFFSETS[offset])
+        if (join.kind, join.origins) not in asked:
+            asked.add((join.kind, join.origins))
+            yield ask("j", points, width, offset)
+
+
 def random_within(rng, size):
     for _ in range(150):
         yield random_join(rng, size)
@@ -200,6 +211,7 @@ def questions():
     }
     for size in (3, 10, 60, LIMIT):
         classes[f"random within {size}"] = random_within(rng, size)
+    classes["all origins"] = origins(random.Random(SEED))
     return listed(classes)
 
 

@@ -1,4 +1,4 @@
-"""Joins of thick lines over exact numbers, from document 01, module 4."""
+"""Joins of thick lines over exact numbers, from document 01, module 4, with K4 of document 02."""
 
 from typing import NamedTuple
 
@@ -18,15 +18,25 @@ KINDS = (
 )
 
 
+# In the place of a crossing's divisions, where an edge's end was taken.
+NOT_A_CROSSING = "-"
+
+
 class Corners(NamedTuple):
     left: tuple
     right: tuple
+
+
+class Origins(NamedTuple):
+    left: str = NOT_A_CROSSING
+    right: str = NOT_A_CROSSING
 
 
 class Join(NamedTuple):
     kind: str
     first_edge_end: Corners
     second_edge_start: Corners
+    origins: Origins = Origins()
 
     def corners(self):
         return *self.first_edge_end, *self.second_edge_start
@@ -43,12 +53,14 @@ def end(a, b, width, offset):
 
 
 def meeting(first_edge, second_edge):
-    """Where two edges of one side meet, and the outer side; None if they are parallel."""
+    """Where two edges of one side meet, the outer side, and the origin of that point; None if they are parallel."""
     found = rounded_crossing(second_edge, first_edge)
     if found is None:
         return None
-    point, outer = found
-    return first_edge[1] if nearly_colinear(second_edge, first_edge) else point, outer
+    point, outer, divisions = found
+    if nearly_colinear(second_edge, first_edge):
+        return first_edge[1], outer, NOT_A_CROSSING
+    return point, outer, divisions
 
 
 def overlap(outer, first, second):
@@ -75,10 +87,12 @@ def between(a, b, c, width, offset):
         return Join(f"Degenerate {outer}", ends, starts)
     miter = minus(met.left if outer == LEFT else met.right, b)
     if dot(miter, miter) <= (2 * width) ** 2:
-        return Join("Miter", met, met)
+        return Join("Miter", met, met, Origins(on_left[2], on_right[2]))
     if outer == LEFT:
-        return Join("Bevel Left", ends._replace(right=met.right), starts._replace(right=met.right))
-    return Join("Bevel Right", ends._replace(left=met.left), starts._replace(left=met.left))
+        corners = ends._replace(right=met.right), starts._replace(right=met.right)
+        return Join("Bevel Left", *corners, Origins(right=on_right[2]))
+    corners = ends._replace(left=met.left), starts._replace(left=met.left)
+    return Join("Bevel Right", *corners, Origins(left=on_left[2]))
 
 
 def filler_line(join):

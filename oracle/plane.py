@@ -31,6 +31,11 @@ def nearest(value):
     return -size if value < 0 else size
 
 
+def division_of(value):
+    """How a coordinate comes out: E a whole number, H half way between two, R neither."""
+    return {1: "E", 2: "H"}.get(Fraction(value).denominator, "R")
+
+
 def distance_of(line, point):
     """Twice the signed area of the triangle start, end, point; negative on the left."""
     return determinant(delta_of(line), minus(point, line[0]))
@@ -47,12 +52,12 @@ def crossing_of(first, second):
 
 
 def rounded_crossing(first, second):
-    """The crossing in whole numbers and its outer side; None if parallel."""
+    """The crossing in whole numbers, its outer side, and a letter for each coordinate's division; None if parallel."""
     found = crossing_of(first, second)
     if found is None:
         return None
     x, y, turn = found
-    return (nearest(x), nearest(y)), "Left" if turn < 0 else "Right"
+    return (nearest(x), nearest(y)), "Left" if turn < 0 else "Right", division_of(x) + division_of(y)
 
 
 def nearly_colinear(first, second):

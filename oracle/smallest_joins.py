@@ -41,7 +41,7 @@ def values(a, b, c, width, offset):
         if turn == 0:
             return
         yield f"square of the {side} determinant", turn**2
-    (left, outer), (right, _) = map(joins.meeting, first, second)
+    (left, outer, _), (right, _, _) = map(joins.meeting, first, second)
     if not joins.overlap(outer, first, second):
         miter = minus(left if outer == "Left" else right, b)
         yield "squared miter", dot(miter, miter)

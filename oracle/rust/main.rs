@@ -8,6 +8,7 @@
 
 mod draw_target;
 mod geometry;
+mod origins;
 mod primitives;
 mod route_file;
 mod skeletons;
@@ -99,15 +100,17 @@ fn answer_kind(kind: &str, numbers: &[i32]) -> String {
         ("t", &[ax, ay, bx, by, width]) => thick_points(&line_of(ax, ay, bx, by), width),
         ("a", &[ax, ay, bx, by, width, offset]) => {
             let (a, b) = (Point::new(ax, ay), Point::new(bx, by));
-            join_words(&LineJoin::start(a, b, width as u32, stroke_offset(offset)))
+            uncrossed_words(&LineJoin::start(a, b, width as u32, stroke_offset(offset)))
         }
         ("z", &[ax, ay, bx, by, width, offset]) => {
             let (a, b) = (Point::new(ax, ay), Point::new(bx, by));
-            join_words(&LineJoin::end(a, b, width as u32, stroke_offset(offset)))
+            uncrossed_words(&LineJoin::end(a, b, width as u32, stroke_offset(offset)))
         }
         ("j", &[ax, ay, bx, by, cx, cy, width, offset]) => {
-            let (a, b, c) = (Point::new(ax, ay), Point::new(bx, by), Point::new(cx, cy));
-            join_words(&LineJoin::from_points(a, b, c, width as u32, stroke_offset(offset)))
+            let bend @ [a, b, c] = [Point::new(ax, ay), Point::new(bx, by), Point::new(cx, cy)];
+            let offset = stroke_offset(offset);
+            let join = LineJoin::from_points(a, b, c, width as u32, offset);
+            format!("{} {}", join_words(&join), origins::words(&join.kind, bend, width, offset))
         }
         ("f", numbers) => lines_of_join(&join(numbers)),
         ("k", numbers) => parts_of_segment(&segment(numbers)),
@@ -129,15 +132,19 @@ fn answer_kind(kind: &str, numbers: &[i32]) -> String {
         }
         ("O", &[width, offset, _, _, ref coordinates @ ..]) => {
             let points = points(coordinates);
-            walk_words(ThickSegmentIter::new(&points, width as u32, stroke_offset(offset)))
+            let segments = ThickSegmentIter::new(&points, width as u32, stroke_offset(offset));
+            walk_words(segments, &points, width, StrokeOffset::None)
         }
         ("C", &[width, offset, _, _, ref coordinates @ ..]) => {
             let points = points(coordinates);
-            walk_words(ClosedThickSegmentIter::new(&points, width as u32, stroke_offset(offset)))
+            let offset = stroke_offset(offset);
+            let segments = ClosedThickSegmentIter::new(&points, width as u32, offset);
+            walk_words(segments, &points, width, offset)
         }
         ("N", &[width, _, _, _, ref coordinates @ ..]) => {
             let points = points(coordinates);
-            walk_words(scanline_intersections::door::segments(&points, width as u32))
+            let segments = scanline_intersections::door::segments(&points, width as u32);
+            walk_words(segments, &points, width, StrokeOffset::None)
         }
         ("M", &[width, _, row, _, ref coordinates @ ..]) => {
             merged_words(ScanlineIntersections::new(&points(coordinates), width as u32, row))
@@ -182,7 +189,8 @@ fn sides(line: &Line, point: Point) -> String {
 fn crossing(first: &Line, second: &Line) -> String {
     match IntersectionParams::from_lines(first, second).intersection() {
         Intersection::Point { point, outer_side } => {
-            format!("{} {} {:?}", point.x, point.y, outer_side)
+            let divisions = origins::divisions(first, second);
+            format!("{} {} {:?} {divisions}", point.x, point.y, outer_side)
         }
         Intersection::Colinear => "Colinear".into(),
     }
@@ -221,6 +229,11 @@ fn counted(items: impl ExactSizeIterator<Item = String>) -> String {
         .chain(items)
         .collect::<Vec<_>>()
         .join(" ")
+}
+
+/// A join at the start or at the end of a route.
+fn uncrossed_words(join: &LineJoin) -> String {
+    format!("{} - -", join_words(join))
 }
 
 fn join_words(join: &LineJoin) -> String {
@@ -332,10 +345,23 @@ fn points(coordinates: &[i32]) -> Vec<Point> {
     pairs.map(|pair| Point::new(pair[0], pair[1])).collect()
 }
 
-/// Of each segment its two joins, then the end.
-fn walk_words(segments: impl IntoIterator<Item = ThickSegment>) -> String {
-    let joins = |segment| thick_segment::door::joins(&segment).map(|join| join_words(&join));
-    let parts = segments.into_iter().map(|segment| joins(segment).join(" / "));
+/// Of each segment its two joins, then the end. A segment begins at the point of its place; the point
+/// after the last is the first.
+fn walk_words(
+    segments: impl IntoIterator<Item = ThickSegment>,
+    points: &[Point],
+    width: i32,
+    offset: StrokeOffset,
+) -> String {
+    let count = points.len();
+    let words = |join: &LineJoin, place: usize| {
+        let bend = [place + count - 1, place, place + 1].map(|place| points[place % count]);
+        format!("{} {}", join_words(join), origins::words(&join.kind, bend, width, offset))
+    };
+    let parts = segments.into_iter().enumerate().map(|(place, segment)| {
+        let [start, end] = thick_segment::door::joins(&segment);
+        format!("{} / {}", words(&start, place), words(&end, place + 1))
+    });
     parts.chain(["end".into()]).collect::<Vec<_>>().join(" | ")
 }
 

@@ -12,7 +12,7 @@ use Rattle.shapes.specs.Limits.{lineLimit}
 use Rattle.shapes.specs.Shape.{lineOf, Near}
 use Rattle.shapes.proofs.Laws.{line-of-near}
 use Rattle.intersection_params.specs.declared.Intersection.{Intersection}
-use Rattle.intersection_params.specs.declared.Intersection.the-variants.{At, Colinear, Refused}
+use Rattle.intersection_params.specs.declared.Intersection.the-variants.{At, Colinear}
 use Rattle.extents.specs.declared.Edges.{Edges}
 use Rattle.extents.specs.Edges.{extentsOf}
 use Rattle.extents.proofs.Laws.{edges-at-zero}
@@ -53,7 +53,6 @@ module _ (a b c : Point) where
       (either Merged (overlapping s (bare (lineOf a b)) (bare (lineOf b c))) (λ _. at-edges (kind.Degenerate s))
       (λ _. either Merged (reaches b (outer s (cornersOf b b)) w) (λ _. record { ending-one = refl; starting-one = refl }) (λ _. at-cut s)))
   bent-by w Colinear e = at-edges kind.Colinear
-  bent-by w (Refused n) e = at-edges kind.Colinear
 
 -- ---- of a line within the limit, at widths 0 and 1
 
@@ -76,4 +75,6 @@ module _ {w : ℤ} (thin : Thinnest w) where
 
   pub bend-merged : {a b c : Point} → Near lineLimit a → Near lineLimit b → Near lineLimit c → Merged (joinOf a b c w None)
   unfolding joinOf bentOf
-  bend-merged {a} {b} {c} p q r = rw (edges-bare p q, edges-bare q r) (bent-by a b c w (meet (lineOf b c) (lineOf a b)) refl)
+  bend-merged {a} {b} {c} p q r =
+      let merged = bent-by a b c w (meet (lineOf b c) (lineOf a b)) refl in
+      rw (edges-bare p q, edges-bare q r) (record { ending-one = merged .ending-one; starting-one = merged .starting-one })

@@ -13,15 +13,17 @@ use Rattle.shapes.specs.Strokes.{isThin, strokeRefusal}
 use Rattle.line_join.specs.Answers.{joinValues, madeOf, joinAnswer, pointsAnswer}
 use Rattle.line_join.specs.Miter.{miterLimit, reaches}
 use Rattle.line_join.specs.Caps.{isCornersNear, isJoinNear}
+use Rattle.line_join.specs.Origins.{originOf}
 use Rattle.line_join.specs.Join.{meet, overlapping, bentAt, bentOf, startOf, joinOf}
 use Rattle.extents.specs.Edges.{seen, lasts, closed, extentsOf}
 use Rattle.parallels.specs.Parallels.{bent, turnOf, nextParallel, aimed, thickness, planAlong, planOf, parallelsStart, isDone, grown, yieldOf, parallelsFrom, spare, parallels, parallelsOf}
 use Rattle.shapes.specs.Shape.{samePoint, pointOf, lineOf, isNear, isLineNear, plus, minus, quarterTurn, determinant, dotProduct, squaredLength, delta}
 use Rattle.bresenham.specs.Walk.{placeOf, directionOf, along, parametersAlong, parametersOf, nextAll, previousAll, increased, decreased}
-use Rattle.intersection_params.specs.Crossing.{cramerOf, solutionOf, sideOf, drawnOf, crossingOf, nearlyColinear}
+use Rattle.intersection_params.specs.Crossing.{cramerOf, solutionOf, sideOf, drawnOf, crossingOf, divisionsOf, nearlyColinear}
 use Rattle.linear_equation.specs.Equation.{equationOf, distanceOf, isOnSide}
 use Rattle.whole.specs.Number.{isWithin}
 use Rattle.whole.specs.Rounded.{rounded}
+use Rattle.whole.specs.Divided.{divisionOf}
 use Rattle.corners.specs.Cases.{Holds, legsOf216}
 
 -- the legs
@@ -63,5 +65,5 @@ unfolding seen lasts closed extentsOf bent turnOf nextParallel samePoint aimed t
 second-edges = rw second-parallels
 
 pub legs-of-216 : Holds legsOf216
-unfolding Holds legsOf216 joinValues madeOf joinAnswer pointsAnswer isThin strokeRefusal miterLimit reaches isCornersNear isJoinNear meet overlapping bentAt bentOf startOf joinOf cramerOf solutionOf sideOf drawnOf crossingOf nearlyColinear equationOf distanceOf isOnSide isNear isLineNear plus minus quarterTurn determinant dotProduct squaredLength delta isWithin rounded
+unfolding Holds legsOf216 joinValues madeOf joinAnswer pointsAnswer isThin strokeRefusal miterLimit reaches isCornersNear isJoinNear meet originOf divisionsOf divisionOf overlapping bentAt bentOf startOf joinOf cramerOf solutionOf sideOf drawnOf crossingOf nearlyColinear equationOf distanceOf isOnSide isNear isLineNear plus minus quarterTurn determinant dotProduct squaredLength delta isWithin rounded
 legs-of-216 = rw (first-edges, second-edges)

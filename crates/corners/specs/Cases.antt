@@ -1,18 +1,21 @@
--- What a case with numbers says of the entries' answers; and 01, "Corners with numbers": the cases marked P, in one list.
+-- What a case with numbers says of the entries' answers; and 01, "Corners with numbers": the cases marked P, in one list, with 02's K4.
 use mathlib.Core.Path.{_≡_}
 use mathlib.Core.Bool.{Bool, true, false}
 use mathlib.Core.List.{List, [], _∷_}
 use Prim.Native.Nat.{ℕ, _*_}
 use lib.IntN.{ℤ, pos, negsuc}
 use lib.ListN.{length, replicate}
+use Rattle.whole.specs.declared.Division.{Division}
+use Rattle.whole.specs.declared.Division.the-variants.{Exact, Half}
 use Rattle.shapes.specs.declared.Point.{Point}
 use Rattle.shapes.specs.declared.Line.{Line}
 use Rattle.shapes.specs.declared.Side.the-variants.{Left, Right}
+use Rattle.shapes.specs.declared.Divisions.{Divisions}
 use Rattle.shapes.specs.Limits.{pointLimit, crossingLimit, cornerLimit, panel}
 use Rattle.shapes.specs.Shape.{LineNear, pointOf, lineOf, delta}
 use Rattle.linear_equation.specs.Equation.{sideAnswer}
-use Rattle.intersection_params.specs.declared.Intersection.{Intersection}
-use Rattle.intersection_params.specs.declared.Intersection.the-variants.{At, Colinear}
+use Rattle.intersection_params.specs.declared.Crossed.{Crossed}
+use Rattle.intersection_params.specs.declared.Crossed.the-variants.{At, Colinear}
 use Rattle.intersection_params.specs.Crossing.{crossingValues, crossingAnswer, nearlyAnswer}
 use Rattle.shapes.specs.declared.Offset.{Offset}
 use Rattle.shapes.specs.declared.Offset.the-variants.{None}
@@ -25,6 +28,8 @@ use Rattle.line_join.specs.declared.Corners.{Corners}
 use Rattle.line_join.specs.declared.Join.{Join}
 use Rattle.line_join.specs.declared.Joined.the-variants.{Made}
 use Rattle.line_join.specs.declared.Kind.the-variants.{Miter}
+use Rattle.line_join.specs.declared.Origin.the-variants.{Crossing}
+use Rattle.line_join.specs.Origins.{originsOf}
 use Rattle.line_join.specs.Answers.{joinValues, capsValues, pointsAnswer, startCapsAnswer, endCapsAnswer}
 use Rattle.thick_segment.specs.declared.Segment.{Segment}
 use Rattle.thick_segment.specs.declared.Rectangle.{Rectangle}
@@ -43,9 +48,9 @@ use Rattle.board_laws.specs.Histories.{Event, offers, boardAfter}
 
 pub data Case : Type 0 where
   -- two lines and their crossing
-  crossing : Line → Line → Intersection → Case
+  crossing : Line → Line → Crossed → Case
   -- a line, and its crossing with any line inside the limit, as the first of the two and as the second
-  crossingWithAny : Line → Intersection → Case
+  crossingWithAny : Line → Crossed → Case
   -- two deltas, and whether lines that have them run nearly the same way
   nearly : Point → Point → Bool → Case
   -- three points, a width and an offset, and the join at the second point
@@ -106,26 +111,30 @@ Every (c ∷ cs) = Holds c × Every cs
 abbrev pub line : ℤ → ℤ → ℤ → ℤ → Line
 line x y u v = lineOf (pointOf x y) (pointOf u v)
 
+-- how x and y come out
+abbrev pub divided : Division → Division → Divisions
+divided x y = record { x = x; y = y }
+
 -- the columns from s to e, e not included
 abbrev run : ℕ → ℕ → Run
 run s e = runOf (pos s) (pos e)
 
--- (0,0), (216,0), (216,216) at width 3: a miter with its corners at (217,-1) and (215,1)
+-- (0,0), (216,0), (216,216) at width 3: a miter with its corners at (217,-1) and (215,1), where the edges do cross
 unfoldable pub legsOf216 : Case
 legsOf216 =
     let tip : Corners = record { left = pointOf (pos 217) (negsuc 0); right = pointOf (pos 215) (pos 1) } in
-    joins (pointOf (pos 0) (pos 0)) (pointOf (pos 216) (pos 0)) (pointOf (pos 216) (pos 216)) (pos 3) None (record { kind = Miter; ending = tip; starting = tip })
+    joins (pointOf (pos 0) (pos 0)) (pointOf (pos 216) (pos 0)) (pointOf (pos 216) (pos 216)) (pos 3) None (record { kind = Miter; ending = tip; starting = tip; origins = originsOf (Crossing (divided Exact Exact)) (Crossing (divided Exact Exact)) })
 
 unfoldable pub cases : List Case
 cases =
     -- P1
-    crossing (line (pos 0) (pos 0) (pos 4) (pos 0)) (line (pos 2) (negsuc 1) (pos 2) (pos 2)) (At (pointOf (pos 2) (pos 0)) Right)
+    crossing (line (pos 0) (pos 0) (pos 4) (pos 0)) (line (pos 2) (negsuc 1) (pos 2) (pos 2)) (At (pointOf (pos 2) (pos 0)) Right (divided Exact Exact))
     -- P2: the lines exchanged
-    ∷ crossing (line (pos 2) (negsuc 1) (pos 2) (pos 2)) (line (pos 0) (pos 0) (pos 4) (pos 0)) (At (pointOf (pos 2) (pos 0)) Left)
-    -- P3
-    ∷ crossing (line (pos 0) (pos 0) (pos 1) (pos 1)) (line (pos 0) (pos 1) (pos 1) (pos 0)) (At (pointOf (pos 1) (pos 1)) Left)
-    -- P4
-    ∷ crossing (line (pos 0) (pos 0) (negsuc 0) (negsuc 0)) (line (pos 0) (negsuc 0) (negsuc 0) (pos 0)) (At (pointOf (negsuc 0) (negsuc 0)) Left)
+    ∷ crossing (line (pos 2) (negsuc 1) (pos 2) (pos 2)) (line (pos 0) (pos 0) (pos 4) (pos 0)) (At (pointOf (pos 2) (pos 0)) Left (divided Exact Exact))
+    -- P3: (1/2, 1/2)
+    ∷ crossing (line (pos 0) (pos 0) (pos 1) (pos 1)) (line (pos 0) (pos 1) (pos 1) (pos 0)) (At (pointOf (pos 1) (pos 1)) Left (divided Half Half))
+    -- P4: (-1/2, -1/2)
+    ∷ crossing (line (pos 0) (pos 0) (negsuc 0) (negsuc 0)) (line (pos 0) (negsuc 0) (negsuc 0) (pos 0)) (At (pointOf (negsuc 0) (negsuc 0)) Left (divided Half Half))
     -- P6
     ∷ crossing (line (pos 0) (pos 0) (pos 4) (pos 0)) (line (pos 0) (pos 1) (pos 4) (pos 1)) Colinear
     -- P7

@@ -9,6 +9,8 @@ use lib.IntN.{ℤ, pos, natAbs, _-ℤ_, _*ℤ_, ℤ-discrete}
 use lib.Signed.{ltZ, _<ℤ_}
 use Rattle.whole.specs.Number.{eqZ}
 use Rattle.whole.specs.Rounded.{rounded}
+use Rattle.whole.specs.declared.Division.{Division}
+use Rattle.whole.specs.declared.Division.the-variants.{Exact, Half, Rounded}
 use Rattle.whole.proofs.Laws.{rounded-nearest, nearest-unique, nearest-ratio}
 use Rattle.whole.proofs.Orders.{eqZ-no}
 use Rattle.whole.proofs.Ring.{con, neg, _⊕_, _⊖_, _⊗_, _≈_, since, ring}
@@ -17,13 +19,16 @@ use Rattle.shapes.specs.declared.Point.{Point}
 use Rattle.shapes.specs.declared.Line.{Line}
 use Rattle.shapes.specs.declared.Side.{Side}
 use Rattle.shapes.specs.declared.Side.the-variants.{Left, Right}
+use Rattle.shapes.specs.declared.Divisions.{Divisions}
 use Rattle.shapes.specs.Shape.{LineNear, isLineNear, pointOf, determinant, dotProduct, quarterTurn, delta, minus}
 use Rattle.shapes.proofs.Laws.{line-near-iff, turn-determinant}
 use Rattle.linear_equation.specs.Equation.{equationOf}
 use Rattle.intersection_params.specs.declared.Solution.{Solution}
 use Rattle.intersection_params.specs.declared.Intersection.{Intersection}
-use Rattle.intersection_params.specs.declared.Intersection.the-variants.{At, Colinear, Refused}
-use Rattle.intersection_params.specs.Crossing.{cramerOf, solutionOf, sideOf, drawnOf, crossingOf, nearlyColinear, areLinesNear, CrossingValues, crossingValues, crossingAnswer, nearlyAnswer}
+use Rattle.intersection_params.specs.declared.Intersection.the-variants.{At, Colinear}
+use Rattle.intersection_params.specs.declared.Crossed.{Crossed}
+use Rattle.intersection_params.specs.declared.Crossed.the-variants as crossed
+use Rattle.intersection_params.specs.Crossing.{cramerOf, solutionOf, sideOf, drawnOf, crossingOf, divisionsOf, nearlyColinear, withDivisions, foundOf, areLinesNear, CrossingValues, divisionNumber, crossingValues, crossingAnswer, nearlyAnswer}
 use Rattle.intersection_params.specs.Words.{bend, OnLine, TrueCrossing, SamePoint, IsDrawn}
 
 -- ---- the numerators over the determinant are the true crossing, and nothing else is
@@ -149,18 +154,28 @@ module _ (a b : Line) (p : Point) (s : Side) where
 -- ---- the entries' answers
 
 -- each answer has values of its own: it can be read back from them
-abbrev readBack : CrossingValues → Intersection
+abbrev readDivision : ℕ → Division
+readDivision n = cond (eqb n 1) Exact (cond (eqb n 2) Half Rounded)
+
+read-division : (v : Division) → readDivision (divisionNumber v) ≡ v
+read-division Exact = refl
+read-division Half = refl
+read-division Rounded = refl
+
+abbrev readBack : CrossingValues → Crossed
 readBack v =
-    cond (eqb (v .found) 0) (Refused (v .refusal)) (cond (eqb (v .found) 1) Colinear (At (pointOf (v .x) (v .y)) (cond (eqb (v .found) 2) Left Right)))
+    cond (eqb (v .found) 0) (crossed.Refused (v .refusal))
+    (cond (eqb (v .found) 1) crossed.Colinear
+    (crossed.At (pointOf (v .x) (v .y)) (cond (eqb (v .found) 2) Left Right) (record { x = readDivision (v .x-division); y = readDivision (v .y-division) })))
 
-read-back : (r : Intersection) → readBack (crossingValues r) ≡ r
+read-back : (r : Crossed) → readBack (crossingValues r) ≡ r
 unfolding crossingValues
-read-back (At p Left) = refl
-read-back (At p Right) = refl
-read-back Colinear = refl
-read-back (Refused n) = refl
+read-back (crossed.At p Left ds) = simp read-division
+read-back (crossed.At p Right ds) = simp read-division
+read-back crossed.Colinear = refl
+read-back (crossed.Refused n) = refl
 
-pub values-tell : (r s : Intersection) → crossingValues r ≡ crossingValues s → r ≡ s
+pub values-tell : (r s : Crossed) → crossingValues r ≡ crossingValues s → r ≡ s
 values-tell r s e = sym (read-back r) ∙ ap readBack e ∙ read-back s
 
 -- both lines are inside a limit
@@ -172,28 +187,28 @@ unfolding areLinesNear
 near-exactly k a b = and-iff (isLineNear k a) (isLineNear k b) (line-near-iff k a) (line-near-iff k b)
 
 -- inside the limit the crossing, else refusal 4 with 0 in every other value
-pub crossing-chosen : (k : ℕ) (a b : Line) → Chosen (Inside k a b) (crossingAnswer k a b) (crossingValues (crossingOf a b)) (record { refusal = 4; found = 0; x = pos 0; y = pos 0 })
+pub crossing-chosen : (k : ℕ) (a b : Line) → Chosen (Inside k a b) (crossingAnswer k a b) (crossingValues (foundOf (solutionOf a b))) (record { refusal = 4; found = 0; x = pos 0; y = pos 0; x-division = 0; y-division = 0 })
 unfolding crossingAnswer crossingValues
 crossing-chosen k a b =
-    let c = chosen (areLinesNear k a b) (crossingOf a b) (Refused 4) (near-exactly k a b) in
+    let c = chosen (areLinesNear k a b) (foundOf (solutionOf a b)) (crossed.Refused 4) (near-exactly k a b) in
     record { holds = λ h. ap crossingValues (c .holds h); fails = λ n. ap crossingValues (c .fails n) }
 
 pub nearly-chosen : (k : ℕ) (a b : Line) → Chosen (Inside k a b) (nearlyAnswer k a b) (record { refusal = 0; holds = nearlyColinear a b }) (record { refusal = 4; holds = false })
 unfolding nearlyAnswer
 nearly-chosen k a b = chosen (areLinesNear k a b) _ _ (near-exactly k a b)
 
-unrefused-by : (t : Bool) (p : Point) (s : Side) → crossingValues (cond t Colinear (At p s)) .refusal ≡ 0
+unrefused-by : (ds : Divisions) (x : Intersection) → crossingValues (withDivisions ds x) .refusal ≡ 0
 unfolding crossingValues
-unrefused-by true p s = refl
-unrefused-by false p s = refl
+unrefused-by ds (At p s) = refl
+unrefused-by ds Colinear = refl
 
 -- a crossing that is worked out is no refusal
-unrefused : (a b : Line) → crossingValues (crossingOf a b) .refusal ≡ 0
-unfolding crossingOf drawnOf
-unrefused a b = unrefused-by (eqZ (solutionOf a b .determinant) (pos 0)) _ _
+unrefused : (s : Solution) → crossingValues (foundOf s) .refusal ≡ 0
+unfolding foundOf
+unrefused s = unrefused-by (divisionsOf s) (drawnOf s)
 
 pub crossing-refused : (k : ℕ) (a b : Line) → (crossingAnswer k a b .refusal ≡ 4) ↔ (Inside k a b → ⊥)
-crossing-refused k a b = chosen-exactly (λ v. v .refusal) (unrefused a b) refl (lit< tt) (crossing-chosen k a b)
+crossing-refused k a b = chosen-exactly (λ v. v .refusal) (unrefused (solutionOf a b)) refl (lit< tt) (crossing-chosen k a b)
 
 pub nearly-refused : (k : ℕ) (a b : Line) → (nearlyAnswer k a b .refusal ≡ 4) ↔ (Inside k a b → ⊥)
 nearly-refused k a b = chosen-exactly (λ v. v .refusal) refl refl (lit< tt) (nearly-chosen k a b)

@@ -1,11 +1,13 @@
 -- What demand 2 says of a crossing, in words that know no formula: the true crossing is a point of both lines, and the
--- drawn one lies nearest to it.
+-- drawn one lies nearest to it; and what 02's K4 says of its coordinates.
 use mathlib.Core.Path.{_≡_}
 use mathlib.Core.Logic.{_≢_, _↔_}
 use lib.IntN.{ℤ, pos, _-ℤ_, _*ℤ_}
 use lib.Signed.{_<ℤ_}
 use Rattle.whole.specs.Rounded.{Nearest}
+use Rattle.whole.specs.Divided.{ComesOut}
 use Rattle.shapes.specs.declared.Point.{Point}
+use Rattle.shapes.specs.declared.Divisions.{Divisions}
 use Rattle.shapes.specs.declared.Line.{Line}
 use Rattle.shapes.specs.declared.Side.{Side}
 use Rattle.shapes.specs.declared.Side.the-variants.{Left}
@@ -37,3 +39,12 @@ pub record IsDrawn (a b : Line) (p : Point) (s : Side) : Type 0 where
   pub nearest-x : (t : Solution) → TrueCrossing a b t → Nearest (t .x) (t .determinant) (p .x)
   pub nearest-y : (t : Solution) → TrueCrossing a b t → Nearest (t .y) (t .determinant) (p .y)
   pub left : (s ≡ Left) ↔ (bend a b <ℤ pos 0)
+
+-- the coordinates of the true crossing come out so: whole numbers, half way between two, or neither
+pub record IsDivided (a b : Line) (ds : Divisions) : Type 0 where
+  pub x-comes-out : (t : Solution) → TrueCrossing a b t → ComesOut (ds .x) (t .x) (t .determinant)
+  pub y-comes-out : (t : Solution) → TrueCrossing a b t → ComesOut (ds .y) (t .y) (t .determinant)
+
+-- a point of whole coordinates as a solution
+abbrev pub wholePoint : Point → Solution
+wholePoint p = record { determinant = pos 1; x = p .x; y = p .y }

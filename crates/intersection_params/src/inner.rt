@@ -1,19 +1,24 @@
 //! The crossing of two lines, for the crates above: no test of the input, but bounds that the caller shows.
 ghost use mathlib.Core.Path.{_≡_};
+ghost use mathlib.Core.Logic.{_≢_};
+ghost use lib.IntN.{pos};
 ghost use Rattle.shapes.specs.Limits.{lineLimit};
 ghost use Rattle.shapes.specs.Shape.{LineNear};
 ghost use Rattle.linear_equation.specs.Equation.{Tame};
-ghost use Rattle.intersection_params.specs.Crossing.{Roomy, cramerOf, solutionOf, sideOf, drawnOf, crossingOf, nearlyColinear};
+ghost use Rattle.intersection_params.specs.Crossing.{Roomy, cramerOf, solutionOf, sideOf, drawnOf, divisionsOf, foundOf, nearlyColinear};
+use crate::Crossed;
 use crate::Intersection;
 use crate::Solution;
 use linear_equation::LinearEquation;
 use linear_equation::inner::from_line;
+use shapes::Divisions;
 use shapes::Line;
 use shapes::Point;
 use shapes::Side;
 use shapes::inner::delta;
 use shapes::inner::determinant;
 use shapes::inner::dot_product;
+use whole::inner::division;
 use whole::inner::magnitude;
 use whole::inner::rounded;
 
@@ -75,13 +80,28 @@ pub fn drawn(solution: Solution) -> Intersection
     Intersection::At(point, side)
 }
 
-/// The crossing of two lines; never a refusal.
-pub fn crossing(first: Line, second: Line) -> Intersection
-    requires { ⌜ LineNear lineLimit first ⌝ }
-    requires { ⌜ LineNear lineLimit second ⌝ }
-    ensures { λ r. ⌜ r ≡ crossingOf first second ⌝ }
+/// How the coordinates of a solution come out whose determinant is not 0.
+pub fn divisions(solution: Solution) -> Divisions
+    requires { ⌜ Roomy solution ⌝ }
+    requires { ⌜ solution .determinant ≢ pos 0 ⌝ }
+    ensures { λ r. ⌜ r ≡ divisionsOf solution ⌝ }
 {
-    drawn(solve(first, second))
+    let determinant = solution.determinant;
+    Divisions {
+        x: division(solution.x, determinant),
+        y: division(solution.y, determinant),
+    }
+}
+
+/// A solution as an answer; never a refusal.
+pub fn found(solution: Solution) -> Crossed
+    requires { ⌜ Roomy solution ⌝ }
+    ensures { λ r. ⌜ r ≡ foundOf solution ⌝ }
+{
+    let Intersection::At(point, side) = drawn(solution) else {
+        return Crossed::Colinear;
+    };
+    Crossed::At(point, side, divisions(solution))
 }
 
 /// Whether two lines run nearly the same way.

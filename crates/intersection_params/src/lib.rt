@@ -5,7 +5,10 @@ ghost use Rattle.intersection_params.specs.Crossing.{areLinesNear, cross
 
 pub mod inner; // inner.rt: the same without the tests
 
+use inner::found;
+use inner::solve;
 use linear_equation::Tested;
+use shapes::Divisions;
 use shapes::Line;
 use shapes::Point;
 use shapes::Side;
@@ -21,6 +24,14 @@ pub enum Intersection {
     At(Point, Side),
     /// No point or all of them: the lines run the same way.
     Colinear,
+}
+
+/// The answer of `crossing`.
+pub enum Crossed {
+    /// As `Intersection::At`; and how each coordinate came out: the point is the true crossing where both are exact.
+    At(Point, Side, Divisions),
+    /// As `Intersection::Colinear`.
+    Colinear,
     /// Nothing was worked out; the number says why.
     Refused(u64),
 }
@@ -34,16 +45,17 @@ pub struct Solution {
     pub y: i64,
 }
 
-/// The crossing of two lines: each coordinate is the nearest whole number to the true one, halves away from zero; the outer
-/// side is Left exactly where the determinant of the two directions is negative; Colinear exactly where it is 0, as it is
-/// where a line's start is its end. A coordinate beyond 1,023 is refused with 4.
-pub fn crossing(first: Line, second: Line) -> Intersection
+/// The crossing of two lines: each coordinate is the nearest whole number to the true one, halves away from zero, and comes
+/// with word whether the true one is whole, lies half way between two whole numbers, or neither; the outer side is Left
+/// exactly where the determinant of the two directions is negative; Colinear exactly where it is 0, as it is where a line's
+/// start is its end. A coordinate beyond 1,023 is refused with 4.
+pub fn crossing(first: Line, second: Line) -> Crossed
     ensures { λ r. ⌜ crossingValues r ≡ crossingAnswer crossingLimit first second ⌝ }
 {
     if are_near(first, second) {
-        return inner::crossing(first, second);
+        return found(solve(first, second));
     }
-    Intersection::Refused(COORDINATE)
+    Crossed::Refused(COORDINATE)
 }
 
 /// Whether two lines run nearly the same way: the squared determinant of their directions is strictly below the absolute

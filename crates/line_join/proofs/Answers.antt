@@ -16,7 +16,6 @@ use Rattle.shapes.specs.declared.limits.Limits.{Limits}
 use Rattle.shapes.specs.Limits.{widthLimit, lineLimit}
 use Rattle.shapes.specs.Shape.{Near, LineNear, lineOf, isNear, isLineNear, noLine}
 use Rattle.shapes.proofs.Laws.{near-iff, line-near-iff}
-use Rattle.intersection_params.specs.declared.Intersection.the-variants.{Colinear, Refused}
 use Rattle.line_join.specs.declared.Kind.{Kind}
 use Rattle.line_join.specs.declared.Kind.the-variants as kind
 use Rattle.line_join.specs.declared.Join.{Join}
@@ -29,6 +28,7 @@ use Rattle.line_join.specs.declared.Caps.the-variants as caps
 use Rattle.shapes.specs.Strokes.{Thin, isThin, strokeRefusal}
 use Rattle.line_join.specs.Caps.{JoinNear, isJoinNear, fillerOf, startCapsOf, endCapsOf, isDegenerate}
 use Rattle.line_join.specs.Words.{Refusals}
+use Rattle.line_join.specs.Origins.{noCrossings}
 use Rattle.line_join.specs.Join.{startOf, endOf, joinOf}
 use Rattle.line_join.specs.Answers.{noCorners, kindNumber, JoinValues, joinValues, FillerValues, fillerValues, CapsValues, capsValues}
 use Rattle.line_join.specs.Answers.{madeOf, joinAnswer, startAnswer, endAnswer, pointsAnswer, fillerAnswer, startCapsAnswer, endCapsAnswer, degenerateAnswer}
@@ -107,9 +107,9 @@ module _ (limits : Limits) (fits : limits .point ≤ lineLimit) (room : limits .
   pub end-accepted : endAnswer limits a b w o .refusal ≡ 0
   end-accepted = end-refusal limits a b w o .none .1 (t, (h, end-within o fits room (h .start-near) (h .end-near) t))
 
--- with no refusal the join, else the refusal with 0 in every other value
+-- with no refusal the join, else the refusal with 0 in every other value, and no crossing on either side
 abbrev pub refusedJoin : ℕ → JoinValues
-refusedJoin n = record { refusal = n; kind = 0; ending = noCorners; starting = noCorners }
+refusedJoin n = record { refusal = n; kind = 0; ending = noCorners; starting = noCorners; origins = noCrossings }
 
 chosen-by : (k : ℕ) (j : Join) (n : ℕ) (t s : Bool) → eqb n 0 ≡ t → isJoinNear k j ≡ s → let v = joinValues (cond (eqb n 0) (madeOf k j) (joined.Refused n)) in
     Chosen (v .refusal ≡ 0) v (joinValues (joined.Made j)) (refusedJoin (v .refusal))
@@ -161,7 +161,7 @@ readKind n =
 
 abbrev readJoin : JoinValues → Joined
 readJoin v =
-    cond (eqb (v .kind) 0) (joined.Refused (v .refusal)) (joined.Made (record { kind = readKind (v .kind); ending = v .ending; starting = v .starting }))
+    cond (eqb (v .kind) 0) (joined.Refused (v .refusal)) (joined.Made (record { kind = readKind (v .kind); ending = v .ending; starting = v .starting; origins = v .origins }))
 
 read-kind : (k : Kind) → (eqb (kindNumber k) 0 ≡ false) × (readKind (kindNumber k) ≡ k)
 read-kind kind.Miter = (refl, refl)

@@ -18,7 +18,7 @@ use Rattle.shapes.specs.declared.Offset.{Offset}
 use Rattle.shapes.specs.Limits.{widthLimit, lineLimit}
 use Rattle.shapes.specs.Shape.{Near, pointOf, lineOf, minus, dotProduct, squaredLength}
 use Rattle.intersection_params.specs.declared.Intersection.{Intersection}
-use Rattle.intersection_params.specs.declared.Intersection.the-variants.{At, Colinear, Refused}
+use Rattle.intersection_params.specs.declared.Intersection.the-variants.{At, Colinear}
 use Rattle.intersection_params.specs.Crossing.{solutionOf, drawnOf, crossingOf, nearlyColinear}
 use Rattle.intersection_params.specs.Words.{bend}
 use Rattle.intersection_params.proofs.Laws.{colinear-exactly}
@@ -66,40 +66,16 @@ limit-at-3 = (refl, refl)
 
 -- ---- kinds
 
--- a crossing is a point or none
-abbrev pub NotRefused : Intersection → Type 0
-NotRefused (At p s) = T true
-NotRefused Colinear = T true
-NotRefused (Refused n) = ⊥
-
-drawn-or-none : (t : Bool) (p : Point) (s : Side) → NotRefused (cond t Colinear (At p s))
-drawn-or-none true p s = tt
-drawn-or-none false p s = tt
-
-pub not-refused : (a b : Line) → NotRefused (crossingOf a b)
-unfolding crossingOf drawnOf
-not-refused a b = drawn-or-none (eqZ (solutionOf a b .determinant) (pos 0)) _ _
-
-mended-none : (t : Bool) (end : Point) (x : Intersection) → NotRefused x → mended t end x ≡ Colinear → x ≡ Colinear
-mended-none t end (At p s) h e = let z : _≡_ {A = ℕ} 0 1 = cc in absurd (omega arith)
-mended-none t end Colinear h e = refl
-mended-none t end (Refused n) h e = absurd h
-
-mended-found : (t : Bool) (end : Point) (x : Intersection) → NotRefused (mended t end x)
-mended-found t end (At p s) = tt
-mended-found t end Colinear = tt
-mended-found t end (Refused m) = tt
+mended-none : (t : Bool) (end : Point) (x : Intersection) → mended t end x ≡ Colinear → x ≡ Colinear
+mended-none t end (At p s) e = let z : _≡_ {A = ℕ} 0 1 = cc in absurd (omega arith)
+mended-none t end Colinear e = refl
 
 -- two edges meet nowhere exactly where the determinant of their directions is 0
 pub meet-nowhere : (a b : Line) → (meet a b ≡ Colinear) ↔ (bend a b ≡ pos 0)
 unfolding meet
 meet-nowhere a b =
     let exactly = colinear-exactly a b in
-    (λ e. exactly .0 (mended-none (nearlyColinear a b) (b .end) (crossingOf a b) (not-refused a b) e), λ z. simp (exactly .1 z))
-
-meet-refused : (a b : Line) {n : ℕ} → meet a b ≡ Refused n → ⊥
-unfolding meet
-meet-refused a b e = subst NotRefused e (mended-found (nearlyColinear a b) (b .end) (crossingOf a b))
+    (λ e. exactly .0 (mended-none (nearlyColinear a b) (b .end) (crossingOf a b) e), λ z. simp (exactly .1 z))
 
 module _ (first second : Edges) (mid : Point) (w : ℤ) where
   -- where both pairs of edges cross, by the two tests
@@ -112,9 +88,7 @@ module _ (first second : Edges) (mid : Point) (w : ℤ) where
   crossed-has : (x y : Intersection) → meet (second .left) (first .left) ≡ x → meet (second .right) (first .right) ≡ y → HasKind first second mid w (bentLeft x y first second mid w .kind)
   crossed-has (At l s) (At r t) e f = bend-has s (cornersOf l r) (record { left-at = e; other = t; right-at = f }) (overlapping s first second) (reaches mid (outer s (cornersOf l r)) w) refl refl
   crossed-has (At l s) Colinear e f = inr (meet-nowhere (second .right) (first .right) .0 f)
-  crossed-has (At l s) (Refused n) e f = absurd (meet-refused (second .right) (first .right) f)
   crossed-has Colinear y e f = inl (meet-nowhere (second .left) (first .left) .0 e)
-  crossed-has (Refused n) y e f = absurd (meet-refused (second .left) (first .left) e)
 
   -- what is said of a join's kind holds
   has-kind : HasKind first second mid w (bentOf first second mid w .kind)
@@ -128,7 +102,6 @@ module _ (first second : Edges) (mid : Point) (w : ℤ) where
   right-nowhere : (x : Intersection) → bentLeft x Colinear first second mid w ≡ plain kind.Colinear first second
   right-nowhere (At l s) = refl
   right-nowhere Colinear = refl
-  right-nowhere (Refused n) = refl
 
   -- each of the four, whole
   pub miter-is : (h : Short first second mid w) → bentOf first second mid w ≡ alike kind.Miter (h .crossing)

@@ -3,3 +3,4 @@ pub mod Laws
 pub mod Meeting
 pub mod Others
 pub mod Room
+pub mod Traced

@@ -12,7 +12,7 @@ use Rattle.shapes.specs.Shape.{minus, determinant, delta}
 use Rattle.linear_equation.specs.Equation.{equationOf}
 use Rattle.linear_equation.proofs.Laws.{distance-determinant, left-exactly, right-exactly}
 use Rattle.intersection_params.specs.declared.Intersection.{Intersection}
-use Rattle.intersection_params.specs.declared.Intersection.the-variants.{At, Colinear, Refused}
+use Rattle.intersection_params.specs.declared.Intersection.the-variants.{At, Colinear}
 use Rattle.intersection_params.specs.Crossing.{crossingOf, nearlyColinear}
 use Rattle.intersection_params.specs.Words.{IsDrawn}
 use Rattle.intersection_params.proofs.Laws.{one-side, colinear-exactly, drawn-exactly}
@@ -20,14 +20,12 @@ use Rattle.extents.specs.declared.Edges.{Edges}
 use Rattle.line_join.specs.declared.Corners.{Corners}
 use Rattle.line_join.specs.Join.{mended, meet, overlapping}
 use Rattle.line_join.specs.Words.{Bend, Ended, innerEdge, Outward}
-use Rattle.line_join.proofs.Laws.{NotRefused, not-refused}
 
 -- ---- what two edges meet at
 
 sound-at : (end : Point) (x : Intersection) (p : Point) (s : Side) → (mended false end x ≡ At p s) ↔ (x ≡ At p s)
 sound-at end (At q t) p s = (λ e. e, λ e. e)
 sound-at end Colinear p s = (λ e. e, λ e. e)
-sound-at end (Refused n) p s = (λ e. let z : _≡_ {A = ℕ} 0 1 = cc in absurd (omega arith), λ e. let z : _≡_ {A = ℕ} 0 1 = cc in absurd (omega arith))
 
 module _ (second first : Line) (p : Point) (s : Side) where
   -- edges that do not run nearly alike meet where they are drawn to cross
@@ -45,17 +43,15 @@ module _ (second first : Line) (p : Point) (s : Side) where
       let side : t ≡ s = cc f in
       record { crosses = d .crosses; at-end = sym at; left = rw (← side) (d .left) }
   ended-of Colinear e f = let z : _≡_ {A = ℕ} 0 1 = cc f in absurd (omega arith)
-  ended-of (Refused n) e f = let z : _≡_ {A = ℕ} 0 1 = cc f in absurd (omega arith)
 
-  of-ended : (x : Intersection) → crossingOf second first ≡ x → NotRefused x → Ended second first p s → mended true (first .end) x ≡ At p s
-  of-ended (At q t) e h d = let side = one-side t s (drawn-exactly second first q t .0 e .left) (d .left) in cc (side, d .at-end)
-  of-ended Colinear e h d = absurd (d .crosses (colinear-exactly second first .0 e))
-  of-ended (Refused n) e h d = absurd h
+  of-ended : (x : Intersection) → crossingOf second first ≡ x → Ended second first p s → mended true (first .end) x ≡ At p s
+  of-ended (At q t) e d = let side = one-side t s (drawn-exactly second first q t .0 e .left) (d .left) in cc (side, d .at-end)
+  of-ended Colinear e d = absurd (d .crosses (colinear-exactly second first .0 e))
 
   -- edges that do meet at the end of the first
   pub meet-ended : nearlyColinear second first ≡ true → (meet second first ≡ At p s) ↔ Ended second first p s
   unfolding meet
-  meet-ended near = (λ e. ended-of (crossingOf second first) refl (rw near at e), λ d. rw near (of-ended (crossingOf second first) refl (not-refused second first) d))
+  meet-ended near = (λ e. ended-of (crossingOf second first) refl (rw near at e), λ d. rw near (of-ended (crossingOf second first) refl d))
 
 -- the corners of a bend: each is a drawn crossing of two edges, or the end of the first
 module _ {first second : Edges} {side : Side} {crossing : Corners} (b : Bend first second side crossing) where

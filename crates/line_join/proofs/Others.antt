@@ -3,27 +3,20 @@
 use mathlib.Core.Path.{_≡_, refl}
 use mathlib.Core.List.{[], _∷_}
 use mathlib.Core.Bool.{false}
-use Prim.Native.Nat.{ℕ}
 use denote.Enum.Declared.{tagOf}
 use types.Run.{OneOf, miss}
 use Rattle.shapes.specs.Shape.{lineOf}
-use Rattle.intersection_params.specs.declared.Intersection.{Intersection}
-use Rattle.intersection_params.specs.declared.Intersection.the-variants as intersection
-use Rattle.intersection_params.proofs.Intersection as the-intersection
 use Rattle.line_join.specs.declared.Kind.{Kind}
 use Rattle.line_join.specs.declared.Kind.the-variants.{Miter, Bevel, Degenerate, Colinear, Start, End}
 use Rattle.line_join.specs.declared.Corners.{Corners}
 use Rattle.line_join.specs.declared.Filler.{Filler}
 use Rattle.line_join.specs.declared.Filler.the-variants.{Filled, Nothing, Refused}
 use Rattle.line_join.specs.declared.Caps.the-variants.{One}
+use Rattle.line_join.specs.declared.Origin.{Origin}
+use Rattle.line_join.specs.Origins.{noCrossings, originsBy}
 use Rattle.line_join.specs.Caps.{fillerBy, cappedBy, isDegenerate}
 use Rattle.line_join.proofs.Kind as the-kind
 use Rattle.line_join.proofs.Filler as the-filler
-
-pub not-at : {A : Type 0} (f : Intersection → A) {a : A} → f intersection.Colinear ≡ a → ((n : ℕ) → f (intersection.Refused n) ≡ a) → (x : Intersection) → OneOf (1 ∷ 2 ∷ []) (tagOf the-intersection.the-type x) → f x ≡ a
-not-at f p q (intersection.At point s) h = absurd (miss (1 ∷ 2 ∷ []) 0 tt h)
-not-at f p q intersection.Colinear h = p
-not-at f p q (intersection.Refused n) h = q n
 
 pub not-filled : (x : Filler) (c : Corners) → OneOf (1 ∷ 2 ∷ []) (tagOf the-filler.the-type x) → cappedBy x c ≡ One (lineOf (c .left) (c .right))
 not-filled (Filled l) c h = absurd (miss (1 ∷ 2 ∷ []) 0 tt h)
@@ -45,3 +38,11 @@ not-degenerate (Degenerate s) h = absurd (miss (0 ∷ 1 ∷ 3 ∷ 4 ∷ 5 ∷ []
 not-degenerate Colinear h = refl
 not-degenerate Start h = refl
 not-degenerate End h = refl
+
+pub not-crossed : (k : Kind) (l r : Origin) → OneOf (2 ∷ 3 ∷ 4 ∷ 5 ∷ []) (tagOf the-kind.the-type k) → originsBy k l r ≡ noCrossings
+not-crossed Miter l r h = absurd (miss (2 ∷ 3 ∷ 4 ∷ 5 ∷ []) 0 tt h)
+not-crossed (Bevel s) l r h = absurd (miss (2 ∷ 3 ∷ 4 ∷ 5 ∷ []) 1 tt h)
+not-crossed (Degenerate s) l r h = refl
+not-crossed Colinear l r h = refl
+not-crossed Start l r h = refl
+not-crossed End l r h = refl

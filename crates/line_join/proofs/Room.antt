@@ -22,7 +22,7 @@ use Rattle.shapes.specs.Shape.{Near, LineNear, pointOf, lineOf, isNear}
 use Rattle.shapes.proofs.Laws.{near-more, line-near-more, line-of-near, near-iff}
 use Rattle.shapes.proofs.Widths.{thin-held, thin-within}
 use Rattle.intersection_params.specs.declared.Intersection.{Intersection}
-use Rattle.intersection_params.specs.declared.Intersection.the-variants.{At, Colinear, Refused}
+use Rattle.intersection_params.specs.declared.Intersection.the-variants.{At, Colinear}
 use Rattle.intersection_params.specs.Crossing.{solutionOf, sideOf, drawnOf, crossingOf, nearlyColinear}
 use Rattle.intersection_params.proofs.Room.{solution-roomy}
 use Rattle.extents.specs.Edges.{EdgesNear, extentsOf}
@@ -59,7 +59,6 @@ edges-room o p q h = edges-within o (lit≤ tt) (lit≤ tt) p q h
 abbrev pub Inside : Intersection → Type 0
 Inside (At p s) = Near cornerRoom p
 Inside Colinear = T true
-Inside (Refused n) = T true
 
 chosen-room : (t : Bool) (p : Point) (s : Side) → Near cornerRoom p → Inside (cond t Colinear (At p s))
 chosen-room true p s h = tt
@@ -80,7 +79,6 @@ mended-room : (t : Bool) {end : Point} (x : Intersection) → Near cornerRoom en
 mended-room true (At p s) e h = e
 mended-room false (At p s) e h = h
 mended-room t Colinear e h = tt
-mended-room t (Refused n) e h = tt
 
 pub meet-room : {second first : Line} → LineNear lineLimit second → LineNear lineLimit first → Inside (meet second first)
 unfolding meet

@@ -1,4 +1,4 @@
--- 01, line_join.rs: the answers of the entries, with the refusals in 01's order, for any limits.
+-- 01, line_join.rs: the answers of the entries, with the refusals in 01's order, for any limits; with 02's K4.
 use mathlib.Core.Bool.{Bool, false, _&&_, cond}
 use Prim.Native.Nat.{ℕ}
 use lib.Dec.{eqb}
@@ -14,6 +14,7 @@ use Rattle.shapes.specs.Shape.{lineOf, noPoint, noLine, isNear, isLineNear}
 use Rattle.line_join.specs.declared.Kind.{Kind}
 use Rattle.line_join.specs.declared.Kind.the-variants as kind
 use Rattle.line_join.specs.declared.Corners.{Corners}
+use Rattle.line_join.specs.declared.Origins.{Origins}
 use Rattle.line_join.specs.declared.Join.{Join}
 use Rattle.line_join.specs.declared.Judged.{Judged}
 use Rattle.line_join.specs.declared.Joined.{Joined}
@@ -23,6 +24,7 @@ use Rattle.line_join.specs.declared.Filler.the-variants as filler
 use Rattle.line_join.specs.declared.Caps.{Caps}
 use Rattle.line_join.specs.declared.Caps.the-variants as caps
 use Rattle.shapes.specs.Strokes.{strokeRefusal}
+use Rattle.line_join.specs.Origins.{noCrossings}
 use Rattle.line_join.specs.Join.{cornersOf, startOf, endOf, joinOf}
 use Rattle.line_join.specs.Caps.{isJoinNear, fillerOf, startCapsOf, endCapsOf, isDegenerate}
 
@@ -31,12 +33,13 @@ use Rattle.line_join.specs.Caps.{isJoinNear, fillerOf, startCapsOf, endC
 abbrev pub noCorners : Corners
 noCorners = cornersOf noPoint noPoint
 
--- the refusal; the kind's number, 0 for a refusal; and the corners
+-- the refusal; the kind's number, 0 for a refusal; the corners; and where they come from
 pub record JoinValues : Type 0 where
   pub refusal : ℕ
   pub kind : ℕ
   pub ending : Corners
   pub starting : Corners
+  pub origins : Origins
 
 abbrev pub onSide : Side → ℕ → ℕ → ℕ
 onSide Left m n = m
@@ -52,11 +55,11 @@ kindNumber kind.End = 8
 
 -- what stands for no join
 abbrev pub noJoinValues : JoinValues
-noJoinValues = record { refusal = 0; kind = 0; ending = noCorners; starting = noCorners }
+noJoinValues = record { refusal = 0; kind = 0; ending = noCorners; starting = noCorners; origins = noCrossings }
 
 unfoldable pub joinValues : Joined → JoinValues
-joinValues (joined.Made j) = record { refusal = 0; kind = kindNumber (j .kind); ending = j .ending; starting = j .starting }
-joinValues (joined.Refused n) = record { refusal = n; kind = 0; ending = noCorners; starting = noCorners }
+joinValues (joined.Made j) = record { refusal = 0; kind = kindNumber (j .kind); ending = j .ending; starting = j .starting; origins = j .origins }
+joinValues (joined.Refused n) = record { refusal = n; kind = 0; ending = noCorners; starting = noCorners; origins = noCrossings }
 
 -- the refusal; 1 for no line, 2 for one, 0 for a refusal; and the line
 pub record FillerValues : Type 0 where

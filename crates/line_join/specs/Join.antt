@@ -1,4 +1,4 @@
--- 01, line_join.rs: the joins of two thick lines, from their edges.
+-- 01, line_join.rs: the joins of two thick lines, from their edges; with 02's K4.
 use mathlib.Core.Bool.{Bool, cond}
 use lib.IntN.{ℤ}
 use Rattle.shapes.specs.declared.Point.{Point}
@@ -9,7 +9,7 @@ use Rattle.shapes.specs.declared.Offset.{Offset}
 use Rattle.shapes.specs.Shape.{lineOf}
 use Rattle.linear_equation.specs.Equation.{equationOf, isOnSide}
 use Rattle.intersection_params.specs.declared.Intersection.{Intersection}
-use Rattle.intersection_params.specs.declared.Intersection.the-variants.{At, Colinear, Refused}
+use Rattle.intersection_params.specs.declared.Intersection.the-variants.{At, Colinear}
 use Rattle.intersection_params.specs.Crossing.{crossingOf, nearlyColinear}
 use Rattle.extents.specs.declared.Edges.{Edges}
 use Rattle.extents.specs.Edges.{extentsOf}
@@ -17,19 +17,24 @@ use Rattle.line_join.specs.declared.Kind.{Kind}
 use Rattle.line_join.specs.declared.Kind.the-variants as kind
 use Rattle.line_join.specs.declared.Corners.{Corners}
 use Rattle.line_join.specs.declared.Join.{Join}
+use Rattle.line_join.specs.declared.Met.{Met}
 use Rattle.line_join.specs.Miter.{reaches}
+use Rattle.line_join.specs.Origins.{noCrossings, originOf, traced}
 
 -- ---- the crossing of two edges
 
--- a crossing that is spoilt is replaced by a point (a crossing of edges is never refused)
+-- a crossing that is spoilt is replaced by a point
 abbrev pub mended : Bool → Point → Intersection → Intersection
 mended spoilt end (At p s) = At (cond spoilt end p) s
 mended spoilt end Colinear = Colinear
-mended spoilt end (Refused n) = Colinear
 
 -- the second edge is the first argument; a nearly colinear crossing is replaced by the first edge's end
 unfoldable pub meet : Line → Line → Intersection
 meet second first = mended (nearlyColinear second first) (first .end) (crossingOf second first)
+
+-- with where it comes from
+abbrev pub meetingOf : Line → Line → Met
+meetingOf second first = record { found = meet second first; origin = originOf second first }
 
 -- ---- corners
 
@@ -53,20 +58,20 @@ abbrev pub cutOff : Side → Corners → Corners → Corners
 cutOff Left edge crossing = cornersOf (edge .left) (crossing .right)
 cutOff Right edge crossing = cornersOf (crossing .left) (edge .right)
 
--- ---- joins, by their corners
+-- ---- joins, by their corners; their origins are set when they are made
 
 -- one line begins just where the other ends
 abbrev pub alike : Kind → Corners → Join
-alike k c = record { kind = k; ending = c; starting = c }
+alike k c = record { kind = k; ending = c; starting = c; origins = noCrossings }
 
 -- at the ends of the edges
 abbrev pub plain : Kind → Edges → Edges → Join
-plain k first second = record { kind = k; ending = endsOf first; starting = startsOf second }
+plain k first second = record { kind = k; ending = endsOf first; starting = startsOf second; origins = noCrossings }
 
 -- a bevel: the inner corner stays, and the outer one is cut off
 abbrev pub cut : Side → Corners → Edges → Edges → Join
 cut s crossing first second =
-    record { kind = kind.Bevel s; ending = cutOff s (endsOf first) crossing; starting = cutOff s (startsOf second) crossing }
+    record { kind = kind.Bevel s; ending = cutOff s (endsOf first) crossing; starting = cutOff s (startsOf second) crossing; origins = noCrossings }
 
 -- ---- the join of edges
 
@@ -85,16 +90,18 @@ bentAt s crossing first second mid w =
 abbrev pub bentRight : Intersection → Side → Point → Edges → Edges → Point → ℤ → Join
 bentRight (At r t) s l first second mid w = bentAt s (cornersOf l r) first second mid w
 bentRight Colinear s l first second mid w = plain kind.Colinear first second
-bentRight (Refused n) s l first second mid w = plain kind.Colinear first second
 
 -- the left crossing, whose outer side is the join's; Colinear if either is
 abbrev pub bentLeft : Intersection → Intersection → Edges → Edges → Point → ℤ → Join
 bentLeft (At l s) right first second mid w = bentRight right s l first second mid w
 bentLeft Colinear right first second mid w = plain kind.Colinear first second
-bentLeft (Refused n) right first second mid w = plain kind.Colinear first second
 
 unfoldable pub bentOf : Edges → Edges → Point → ℤ → Join
 bentOf first second mid w = bentLeft (meet (second .left) (first .left)) (meet (second .right) (first .right)) first second mid w
+
+-- with its origins
+abbrev pub tracedOf : Edges → Edges → Point → ℤ → Join
+tracedOf first second mid w = traced first second (bentOf first second mid w)
 
 -- ---- the three constructors
 
@@ -105,4 +112,4 @@ unfoldable pub endOf : Point → Point → ℤ → Offset → Join
 endOf a b w o = alike kind.End (endsOf (extentsOf (lineOf a b) w o))
 
 unfoldable pub joinOf : Point → Point → Point → ℤ → Offset → Join
-joinOf a b c w o = bentOf (extentsOf (lineOf a b) w o) (extentsOf (lineOf b c) w o) b w
+joinOf a b c w o = tracedOf (extentsOf (lineOf a b) w o) (extentsOf (lineOf b c) w o) b w

@@ -2,4 +2,5 @@ pub mod Answers
 pub mod Caps
 pub mod Join
 pub mod Miter
+pub mod Origins
 pub mod Words

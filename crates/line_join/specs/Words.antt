@@ -1,4 +1,4 @@
--- What 01's order says of a join's kind and of its refusal, in words: when it is which.
+-- What 01's order says of a join's kind and of its refusal, in words: when it is which; and what 02's K4 says of its origins.
 use mathlib.Core.Path.{_≡_}
 use mathlib.Core.Logic.{_↔_, _⊎_, _≢_}
 use mathlib.Core.Bool.{true, false}
@@ -9,13 +9,19 @@ use Rattle.shapes.specs.declared.Point.{Point}
 use Rattle.shapes.specs.declared.Line.{Line}
 use Rattle.shapes.specs.declared.Side.{Side}
 use Rattle.shapes.specs.declared.Side.the-variants.{Left, Right}
+use Rattle.shapes.specs.declared.Divisions.{Divisions}
 use Rattle.shapes.specs.Shape.{minus, squaredLength}
 use Rattle.intersection_params.specs.declared.Intersection.the-variants.{At}
-use Rattle.intersection_params.specs.Words.{bend}
+use Rattle.intersection_params.specs.Crossing.{nearlyColinear}
+use Rattle.intersection_params.specs.Words.{bend, IsDrawn, IsDivided}
 use Rattle.extents.specs.declared.Edges.{Edges}
 use Rattle.line_join.specs.declared.Kind.{Kind}
 use Rattle.line_join.specs.declared.Kind.the-variants.{Miter, Bevel, Degenerate, Colinear, Start, End}
 use Rattle.line_join.specs.declared.Corners.{Corners}
+use Rattle.line_join.specs.declared.Origin.{Origin}
+use Rattle.line_join.specs.declared.Origin.the-variants.{Crossing, NotACrossing}
+use Rattle.line_join.specs.declared.Origins.{Origins}
+use Rattle.line_join.specs.declared.Join.{Join}
 use Rattle.line_join.specs.Miter.{miterLimit}
 use Rattle.line_join.specs.Join.{meet, outer, overlapping}
 
@@ -87,3 +93,47 @@ innerEdge Right e = e .left
 abbrev pub Outward : Side → ℤ → Type 0
 Outward Left d = d ≤ℤ pos 0
 Outward Right d = pos 0 ≤ℤ d
+
+-- ---- where a join's corners come from
+
+-- the edge and the origin on a side
+abbrev pub edgeOn : Side → Edges → Line
+edgeOn Left e = e .left
+edgeOn Right e = e .right
+
+abbrev pub originOn : Side → Origins → Origin
+originOn Left o = o .left
+originOn Right o = o .right
+
+-- the kinds that take ends of edges on a side: a bevel on its outer side, all others but a miter on both
+abbrev pub TakesEnds : Kind → Side → Type 0
+TakesEnds Miter s = ⊥
+TakesEnds (Bevel outside) s = s ≡ outside
+TakesEnds (Degenerate outside) s = Unit
+TakesEnds Colinear s = Unit
+TakesEnds Start s = Unit
+TakesEnds End s = Unit
+
+module _ (first second : Edges) (s : Side) (j : Join) where
+  -- by the kind, or since the edges run nearly alike
+  abbrev pub EndTaken : Type 0
+  EndTaken = TakesEnds (j .kind) s ⊎ (nearlyColinear (edgeOn s second) (edgeOn s first) ≡ true)
+
+  -- the corners of a side are ends of edges
+  pub record AtEnds : Type 0 where
+    pub taken : EndTaken
+    pub ending-at : outer s (j .ending) ≡ edgeOn s first .end
+    pub starting-at : (outer s (j .starting) ≡ edgeOn s second .start) ⊎ (outer s (j .starting) ≡ edgeOn s first .end)
+
+  -- they are one, the drawn crossing of the side's edges, whose coordinates come out so
+  pub record AtCrossing (ds : Divisions) : Type 0 where
+    pub not-taken : EndTaken → ⊥
+    pub outside : Side
+    pub ending-at : IsDrawn (edgeOn s second) (edgeOn s first) (outer s (j .ending)) outside
+    pub starting-at : outer s (j .starting) ≡ outer s (j .ending)
+    pub divided : IsDivided (edgeOn s second) (edgeOn s first) ds
+
+  -- what an origin says of its side's corners
+  abbrev pub ComesFrom : Origin → Type 0
+  ComesFrom (Crossing ds) = AtCrossing ds
+  ComesFrom NotACrossing = AtEnds

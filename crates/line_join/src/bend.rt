@@ -5,16 +5,22 @@ ghost use Rattle.shapes.specs.Shape.{Near, LineNear};
 ghost use Rattle.shapes.specs.Strokes.{Thin};
 ghost use Rattle.line_join.specs.Miter.{cornerRoom};
 ghost use Rattle.extents.specs.Edges.{EdgesNear};
-ghost use Rattle.line_join.specs.Join.{meet, overlapping, plain, alike, cut, cutOff, outer, endsOf, startsOf, bentAt, bentOf};
+ghost use Rattle.line_join.specs.Join.{meetingOf, overlapping, plain, alike, cut, cutOff, outer, endsOf, startsOf, bentAt, tracedOf};
 ghost use Rattle.line_join.specs.Caps.{CornersNear};
 use crate::Corners;
 use crate::Join;
 use crate::Kind;
+use crate::Met;
+use crate::Origin;
 use crate::miter::is_short;
+use crate::trace::no_crossings;
+use crate::trace::traced;
 use extents::Edges;
 use intersection_params::Intersection;
-use intersection_params::inner::crossing;
+use intersection_params::inner::divisions;
+use intersection_params::inner::drawn;
 use intersection_params::inner::nearly_colinear;
+use intersection_params::inner::solve;
 use linear_equation::inner::check_side;
 use linear_equation::inner::from_line;
 use shapes::Line;
@@ -27,19 +33,24 @@ pub fn bent(first: Edges, second: Edges, mid: Point, width: i64) -> Join
     requires { ⌜ EdgesNear lineLimit second ⌝ }
     requires { ⌜ Near lineLimit mid ⌝ }
     requires { ⌜ Thin width ⌝ }
-    ensures { λ r. ⌜ r ≡ bentOf first second mid width ⌝ }
+    ensures { λ r. ⌜ r ≡ tracedOf first second mid width ⌝ }
 {
-    let Intersection::At(left, side) = crossed(second.left, first.left) else {
+    let on_left = meeting(second.left, first.left);
+    let on_right = meeting(second.right, first.right);
+    let found_left = on_left.found;
+    let found_right = on_right.found;
+    let Intersection::At(left, side) = found_left else {
         return at_edges(Kind::Colinear, first, second);
     };
-    let Intersection::At(right, _) = crossed(second.right, first.right) else {
+    let Intersection::At(right, _) = found_right else {
         return at_edges(Kind::Colinear, first, second);
     };
     let crossing = Corners { left, right };
-    bent_at(side, crossing, first, second, mid, width)
+    let join = bent_at(side, crossing, first, second, mid, width);
+    traced(join, on_left, on_right)
 }
 
-/// The same where the left and the right edges cross at the two corners of `crossing`.
+/// The same where the left and the right edges meet at the two corners of `crossing`; its origins are not set yet.
 pub fn bent_at(
     side: Side,
     crossing: Corners,
@@ -66,19 +77,29 @@ pub fn bent_at(
 }
 
 /// Where two edges cross; where they run so nearly alike that rounding spoils the crossing, the end of the first edge.
-pub fn crossed(second: Line, first: Line) -> Intersection
+pub fn meeting(second: Line, first: Line) -> Met
     requires { ⌜ LineNear lineLimit second ⌝ }
     requires { ⌜ LineNear lineLimit first ⌝ }
-    ensures { λ r. ⌜ r ≡ meet second first ⌝ }
+    ensures { λ r. ⌜ r ≡ meetingOf second first ⌝ }
 {
     let end = first.end;
-    let Intersection::At(point, side) = crossing(second, first) else {
-        return Intersection::Colinear;
+    let solution = solve(second, first);
+    let Intersection::At(point, side) = drawn(solution) else {
+        return Met {
+            found: Intersection::Colinear,
+            origin: Origin::NotACrossing,
+        };
     };
     if nearly_colinear(second, first) {
-        return Intersection::At(end, side);
+        return Met {
+            found: Intersection::At(end, side),
+            origin: Origin::NotACrossing,
+        };
     }
-    Intersection::At(point, side)
+    Met {
+        found: Intersection::At(point, side),
+        origin: Origin::Crossing(divisions(solution)),
+    }
 }
 
 /// Whether the inner edge of the second line ends on the outer side of the first line's inner edge, or on it.
@@ -107,6 +128,7 @@ pub fn at_edges(kind: Kind, first: Edges, second: Edges) -> Join
         kind,
         ending: ends(first),
         starting: starts(second),
+        origins: no_crossings(),
     }
 }
 
@@ -118,6 +140,7 @@ pub fn same_corners(kind: Kind, corners: Corners) -> Join
         kind,
         ending: corners,
         starting: corners,
+        origins: no_crossings(),
     }
 }
 
@@ -129,6 +152,7 @@ pub fn bevel(side: Side, crossing: Corners, first: Edges, second: Edges) -> Join
         kind: Kind::Bevel(side),
         ending: cut_off(side, ends(first), crossing),
         starting: cut_off(side, starts(second), crossing),
+        origins: no_crossings(),
     }
 }
 

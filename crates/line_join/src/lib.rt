@@ -7,8 +7,11 @@ ghost use Rattle.line_join.specs.Answers.{fillerAnswer, startCapsAnswer,
 pub mod bend; // bend.rt: the join of two thick lines
 pub mod inner; // inner.rt: the same without the tests
 pub mod miter; // miter.rt: how long a miter may be
+pub mod trace; // trace.rt: where the corners of a join come from
 
 use inner::is_join_near;
+use intersection_params::Intersection;
+use shapes::Divisions;
 use shapes::Line;
 use shapes::Offset;
 use shapes::Point;
@@ -43,12 +46,34 @@ pub struct Corners {
     pub right: Point,
 }
 
+/// Where a corner comes from.
+pub enum Origin {
+    /// The end of an edge.
+    NotACrossing,
+    /// The crossing of two edges, with how its coordinates came out: the corner is the true crossing where both are exact.
+    Crossing(Divisions),
+}
+
+/// Where the left and the right corners of a join come from.
+pub struct Origins {
+    pub left: Origin,
+    pub right: Origin,
+}
+
+/// What two edges meet at: their crossing, or the end of the first of them.
+pub struct Met {
+    pub found: Intersection,
+    pub origin: Origin,
+}
+
 /// A join: its kind, the corners at which the line before it ends (the Rust's `first_edge_end`), and those at which the
-/// line after it begins (`second_edge_start`).
+/// line after it begins (`second_edge_start`). A miter uses both crossings of its edges, a bevel the one on its inner side,
+/// unless they run nearly alike; every other corner is an edge's end.
 pub struct Join {
     pub kind: Kind,
     pub ending: Corners,
     pub starting: Corners,
+    pub origins: Origins,
 }
 
 /// The answer of a constructor.

@@ -8,6 +8,7 @@ use Rattle.whole.specs.Places.{listFrom}
 use Rattle.shapes.specs.Limits.{routePoints}
 use Rattle.line_join.specs.declared.Join.{Join}
 use Rattle.line_join.specs.declared.Kind.the-variants.{Miter}
+use Rattle.line_join.specs.Origins.{noCrossings}
 use Rattle.line_join.specs.Answers.{noCorners}
 use Rattle.line_join.specs.Caps.{JoinNear}
 use Rattle.thick_segment.specs.declared.Segment.{Segment}
@@ -17,7 +18,7 @@ use Rattle.route.specs.declared.Joins.{Joins}
 
 -- what stands in the array beyond the joins
 abbrev pub noJoin : Join
-noJoin = record { kind = Miter; ending = noCorners; starting = noCorners }
+noJoin = record { kind = Miter; ending = noCorners; starting = noCorners; origins = noCrossings }
 
 -- an array of 256 with the joins at its front
 unfoldable pub keptIn : List Join → List Join

@@ -23,6 +23,7 @@ use line_join::Corners;
 use line_join::Join;
 use line_join::Kind;
 use line_join::inner::is_join_near;
+use line_join::trace::no_crossings;
 use route_joins::inner::end_place;
 use route_joins::inner::join_count;
 use route_joins::inner::join_on;
@@ -53,6 +54,7 @@ fn no_join() -> Join
         kind: Kind::Miter,
         ending: corners,
         starting: corners,
+        origins: no_crossings(),
     }
 }
 

@@ -23,6 +23,7 @@ use Rattle.thick_segment.specs.Segments.{SegmentNear, isSegmentNear}
 use Rattle.thick_segment.proofs.Refused.{segment-near-iff}
 use Rattle.line_join.specs.declared.Join.{Join}
 use Rattle.line_join.specs.declared.Joined.the-variants.{Made}
+use Rattle.line_join.specs.Origins.{noCrossings}
 use Rattle.line_join.specs.Answers.{JoinValues, joinValues}
 use Rattle.line_join.proofs.Answers.{join-values-tell}
 use Rattle.route_joins.specs.declared.Step.{Step}
@@ -59,12 +60,12 @@ module _ (k refusal count : ℕ) (segment : ℕ → Segment) (place : ℕ) where
         far = λ none more far. step-corner none more (else-false (isSegmentNear k (segment place)) (λ e. far (segment-near-iff k (segment place) .0 e)));
       }
 
--- refused, every other number is 0: of both joins the kind and the eight coordinates too
+-- refused, every other number is 0: of both joins the kind and the eight coordinates too; and no corner is a crossing
 abbrev origin : Point
 origin = record { x = pos 0; y = pos 0 }
 
 abbrev zeros : JoinValues
-zeros = record { refusal = 0; kind = 0; ending = record { left = origin; right = origin }; starting = record { left = origin; right = origin } }
+zeros = record { refusal = 0; kind = 0; ending = record { left = origin; right = origin }; starting = record { left = origin; right = origin }; origins = noCrossings }
 
 pub refused-zeros : (n : ℕ) → stepValues (Refused n) ≡ record { refusal = n; found = 0; start = zeros; end = zeros }
 unfolding stepValues

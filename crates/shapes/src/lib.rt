@@ -5,10 +5,18 @@ pub mod refusals; // refusals.rt: 01's table of refusals, with K6's 12
 pub mod spans; // spans.rt: whether a span is empty, and inside the columns
 pub mod strokes; // strokes.rt: widths, and what a stroke's input is refused with
 
+use whole::Division;
+
 /// A point of the screen: columns grow to the right, rows grow downwards.
 pub struct Point {
     pub x: i64,
     pub y: i64,
+}
+
+/// How the divisions come out that give the coordinates of a point.
+pub struct Divisions {
+    pub x: Division,
+    pub y: Division,
 }
 
 /// A line from its start to its end, both included.

@@ -13,7 +13,7 @@ use Rattle.shapes.specs.declared.Side.the-variants.{Left, Right}
 use Rattle.shapes.specs.declared.Offset.the-variants.{None}
 use Rattle.shapes.specs.Shape.{lineOf, determinant, delta}
 use Rattle.intersection_params.specs.declared.Intersection.{Intersection}
-use Rattle.intersection_params.specs.declared.Intersection.the-variants.{At, Colinear, Refused}
+use Rattle.intersection_params.specs.declared.Intersection.the-variants.{At, Colinear}
 use Rattle.intersection_params.specs.Words.{bend, IsDrawn}
 use Rattle.extents.specs.declared.Edges.{Edges}
 use Rattle.extents.specs.Edges.{extentsOf}
@@ -72,9 +72,7 @@ module _ (p q r : Point) (w : ℕ) where
     bent-apart : (x y : Intersection) → meet (S .left) (F .left) ≡ x → meet (S .right) (F .right) ≡ y → Apart (bentLeft x y F S q (pos w))
     unfolding bentAt
     bent-apart Colinear y e f = parts .ends
-    bent-apart (Refused n) y e f = parts .ends
     bent-apart (At l s) Colinear e f = parts .ends
-    bent-apart (At l s) (Refused n) e f = parts .ends
     bent-apart (At l s) (At t u) e f =
         let left = corner Left s e in
         let right = corner Right u f in

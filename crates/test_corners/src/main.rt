@@ -10,7 +10,7 @@ use closed_thick_segment_iter::step;
 use coordinates::point_count;
 use extents::Answer;
 use extents::extents;
-use intersection_params::Intersection;
+use intersection_params::Crossed;
 use intersection_params::crossing;
 use line_join::Joined;
 use line_join::Kind;
@@ -296,11 +296,11 @@ fn edges_of(start: Point, end: Point, width: i64) -> Answer {
 }
 
 /// Where the edges of a bend cross on its outer side: the tip of its miter, unless they run nearly alike.
-fn outer_crossing(width: i64, bend: [i64; 6]) -> Intersection {
+fn outer_crossing(width: i64, bend: [i64; 6]) -> Crossed {
     let first = edges_of(first_of(bend), middle_of(bend), width);
     let second = edges_of(middle_of(bend), last_of(bend), width);
     let left = crossing(second.left, first.left);
-    let Intersection::At(_, side) = left else {
+    let Crossed::At(_, side, _) = left else {
         return left;
     };
     match side {
@@ -310,11 +310,11 @@ fn outer_crossing(width: i64, bend: [i64; 6]) -> Intersection {
 }
 
 /// Writes the squared distance of a crossing from a point.
-fn say_square(middle: Point, crossed: Intersection) {
+fn say_square(middle: Point, crossed: Crossed) {
     match crossed {
-        Intersection::At(tip, _) => say_number(squared_distance(middle, tip)),
-        Intersection::Colinear => say(b"none"),
-        Intersection::Refused(number) => say_refused(number),
+        Crossed::At(tip, _, _) => say_number(squared_distance(middle, tip)),
+        Crossed::Colinear => say(b"none"),
+        Crossed::Refused(number) => say_refused(number),
     }
 }
 

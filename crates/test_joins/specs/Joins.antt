@@ -7,6 +7,7 @@ use lib.ListN.{getD}
 use Rattle.shapes.specs.declared.Side.the-variants.{Left, Right}
 use Rattle.line_join.specs.declared.Kind.{Kind}
 use Rattle.line_join.specs.declared.Kind.the-variants.{Miter, Bevel, Degenerate, Colinear, Start, End}
+use Rattle.line_join.specs.Origins.{noCrossings}
 use Rattle.line_join.specs.Join.{cornersOf}
 use Rattle.test_text.specs.Questions.{nextPlace, lineAt}
 use Rattle.test_joins.specs.declared.JoinAt.{JoinAt}
@@ -28,6 +29,6 @@ joinAt s at =
     let a = lineAt s (nextPlace (nextPlace at)) in
     let b = lineAt s (a .next) in
     record {
-      join = record { kind = kindOf (getD s at 0); ending = cornersOf (a .line .start) (a .line .end); starting = cornersOf (b .line .start) (b .line .end) };
+      join = record { kind = kindOf (getD s at 0); ending = cornersOf (a .line .start) (a .line .end); starting = cornersOf (b .line .start) (b .line .end); origins = noCrossings };
       next = b .next;
     }

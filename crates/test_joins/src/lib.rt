@@ -5,11 +5,15 @@ ghost use Rattle.test_joins.specs.Joins.{kindOf, joinAt};
 use line_join::Corners;
 use line_join::Join;
 use line_join::Kind;
+use line_join::Origin;
+use line_join::trace::no_crossings;
+use shapes::Divisions;
 use shapes::Line;
 use shapes::Side;
 use test_text::after;
 use test_text::line_at;
 use test_text::say_point;
+use whole::Division;
 use writing::say;
 
 /// A join that was read, and the place of the number after it.
@@ -19,7 +23,7 @@ pub struct JoinAt {
 }
 
 /// The join at a place: a digit for its kind, and eight coordinates, a byte between each two. The corners at which the line
-/// before it ends come first, left before right.
+/// before it ends come first, left before right; no corner is told to be a crossing.
 pub fn join_at(s: &[u8], at: usize) -> JoinAt
     ensures { λ r. ⌜ r ≡ joinAt (now (s .entry)) at ⌝ }
 {
@@ -33,6 +37,7 @@ pub fn join_at(s: &[u8], at: usize) -> JoinAt
             kind,
             ending: corners_of(ending),
             starting: corners_of(starting),
+            origins: no_crossings(),
         },
         next: second.next,
     }
@@ -63,14 +68,43 @@ fn kind_of(digit: u8) -> Kind
     }
 }
 
-/// Writes a join: its kind in words, and its eight coordinates.
+/// Writes a join: its kind in words, its eight coordinates, and the origins of its left and of its right corners.
 pub fn say_join(join: Join) {
     let kind = join.kind;
     let ending = join.ending;
     let starting = join.starting;
+    let origins = join.origins;
+    let left = origins.left;
+    let right = origins.right;
     say_kind(kind);
     say_corners(ending);
     say_corners(starting);
+    say_origin(left);
+    say_origin(right);
+}
+
+fn say_origin(origin: Origin) {
+    say(b" ");
+    match origin {
+        Origin::Crossing(divisions) => say_divisions(divisions),
+        Origin::NotACrossing => say(b"-"),
+    }
+}
+
+/// Writes a letter for each coordinate: E where it is exact, H half way, R where it is rounded.
+pub fn say_divisions(divisions: Divisions) {
+    let x = divisions.x;
+    let y = divisions.y;
+    say_division(x);
+    say_division(y);
+}
+
+fn say_division(division: Division) {
+    match division {
+        Division::Exact => say(b"E"),
+        Division::Half => say(b"H"),
+        Division::Rounded => say(b"R"),
+    }
 }
 
 fn say_kind(kind: Kind) {

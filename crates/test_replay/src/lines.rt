@@ -1,5 +1,5 @@
 //! Questions on lines.
-use intersection_params::Intersection;
+use intersection_params::Crossed;
 use intersection_params::crossing;
 use intersection_params::nearly_colinear;
 use linear_equation::Tested;
@@ -9,6 +9,7 @@ use linear_equation::equation;
 use shapes::Line;
 use shapes::Point;
 use shapes::Side;
+use test_joins::say_divisions;
 use test_text::after;
 use test_text::line_at;
 use test_text::say_bool;
@@ -67,15 +68,16 @@ fn say_sides(line: Line, point: Point) {
 
 fn say_crossing(first: Line, second: Line) {
     match crossing(first, second) {
-        Intersection::At(point, side) => {
+        Crossed::At(point, side, divisions) => {
             say_point(point);
             match side {
-                Side::Left => say(b" Left"),
-                Side::Right => say(b" Right"),
+                Side::Left => say(b" Left "),
+                Side::Right => say(b" Right "),
             }
+            say_divisions(divisions);
         }
-        Intersection::Colinear => say(b"Colinear"),
-        Intersection::Refused(n) => say_refused(n),
+        Crossed::Colinear => say(b"Colinear"),
+        Crossed::Refused(n) => say_refused(n),
     }
 }
 

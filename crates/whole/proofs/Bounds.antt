@@ -1,10 +1,10 @@
--- How large a sum, a difference, a product and a quotient are, by the absolute values of their parts. Assumes nothing.
+-- How large a sum, a difference, a product, a quotient and a remainder are, by the absolute values of their parts. Assumes nothing.
 use mathlib.Core.Path.{_≡_, refl}
-use Prim.Native.Nat.{ℕ, zero, suc, _+_, _*_, _/_, _≤_}
-use native.Mathlib.Nat.{mul-le-mul, le-trans, div-le-self}
+use Prim.Native.Nat.{ℕ, zero, suc, _+_, _*_, _/_, _%_, _≤_}
+use native.Mathlib.Nat.{mul-le-mul, le-trans, div-le-self, mod-le}
 use native.Mathlib.Omega.{arith}
 use lib.IntN.{ℤ, pos, negsuc, natAbs, negℤ, _+ℤ_, _-ℤ_, _*ℤ_}
-use lib.Signed.{quotZ}
+use lib.Signed.{quotZ, remZ}
 use Rattle.whole.specs.Number.{Within}
 use Rattle.whole.proofs.Linear.{sum, abs-parts, abs-le}
 
@@ -33,6 +33,11 @@ abs-quot (pos a) (negsuc b) = omega (arith, abs-neg (pos (a / suc b)), div-le-se
 abs-quot (negsuc a) (pos b) = omega (arith, abs-neg (pos (suc a / b)), div-le-self (suc a) b)
 abs-quot (negsuc a) (negsuc b) = div-le-self (suc a) (suc b)
 
+-- what is left has the dividend's sign
+pub abs-rem : (a b : ℤ) → natAbs (remZ a b) ≡ natAbs a % natAbs b
+abs-rem (pos a) b = refl
+abs-rem (negsuc a) b = abs-neg (pos (suc a % natAbs b))
+
 -- ---- the same as bounds
 
 pub within-more : {z : ℤ} {m n : ℕ} → Within z m → m ≤ n → Within z n
@@ -52,3 +57,6 @@ within-mul {a} {b} v w = record { bound = rw (abs-mul a b) (mul-le-mul (v .bound
 
 pub within-quot : {a : ℤ} {m : ℕ} (b : ℤ) → Within a m → Within (quotZ a b) m
 within-quot {a} b w = record { bound = le-trans (abs-quot a b) (w .bound) }
+
+pub within-rem : {a : ℤ} {m : ℕ} (b : ℤ) → Within a m → Within (remZ a b) m
+within-rem {a} b w = record { bound = rw (abs-rem a b) (le-trans (mod-le (natAbs a) (natAbs b)) (w .bound)) }

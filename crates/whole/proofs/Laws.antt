@@ -76,7 +76,7 @@ greater-first {a} {b} h = ⊎-elim (λ e. e) (λ e. omega (linear, le-greater a 
 abbrev multiple : ℕ → ℕ → ℕ
 multiple m e = (m + e / 2) / e * e
 
-abbrev signed : ℤ → ℕ → ℤ
+abbrev pub signed : ℤ → ℕ → ℤ
 signed (pos m) k = pos k
 signed (negsuc m) k = negℤ (pos k)
 

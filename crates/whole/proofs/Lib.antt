@@ -1,5 +1,6 @@
 pub mod Bounds
 pub mod Columns
+pub mod Divided
 pub mod Laws
 pub mod Linear
 pub mod Lists

@@ -9,12 +9,12 @@ use native.Mathlib.Nat.{le-refl}
 use native.Mathlib.Omega.{arith}
 use lib.Dec.{T, ltb, ltb→lt}
 use lib.IntN.{ℤ, pos, negsuc, natAbs, negℤ, _+ℤ_, _-ℤ_, _*ℤ_, +ℤ-idl}
-use lib.Signed.{mag, ltZ, leZ, quotZ}
+use lib.Signed.{mag, ltZ, leZ, quotZ, remZ}
 use mir.Syntax.{w64}
 use mir.Val.{SFits, toZ, ofZ}
 use mir.Facts.{toZ-ofZ}
 use Rattle.whole.specs.Number.{Within}
-use Rattle.whole.proofs.Bounds.{within-neg, within-add, within-sub, within-mul, within-quot}
+use Rattle.whole.proofs.Bounds.{within-neg, within-add, within-sub, within-mul, within-quot, within-rem}
 
 mag-le : (z : ℤ) → mag z ≤ natAbs z
 mag-le (pos n) = le-refl n
@@ -81,6 +81,9 @@ hold-neg {y} q t = rw (q .is, +ℤ-idl (negℤ y)) (hold (within-neg (q .small))
 
 pub hold-quot : {a b m n : ℕ} {x y : ℤ} → Hold a x m → Hold b y n → T (ltb m (2 ^ 63)) → Hold (ofZ w64 (quotZ (toZ w64 a) (toZ w64 b))) (quotZ x y) m
 hold-quot {y} p q t = rw (p .is, q .is) (hold (within-quot y (p .small)) t)
+
+pub hold-rem : {a b m n : ℕ} {x y : ℤ} → Hold a x m → Hold b y n → T (ltb m (2 ^ 63)) → Hold (ofZ w64 (remZ (toZ w64 a) (toZ w64 b))) (remZ x y) m
+hold-rem {y} p q t = rw (p .is, q .is) (hold (within-rem y (p .small)) t)
 
 -- ---- what a test says
 

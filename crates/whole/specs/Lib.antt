@@ -1,4 +1,5 @@
 pub mod Columns
+pub mod Divided
 pub mod Number
 pub mod Places
 pub mod Rounded

@@ -6,7 +6,9 @@ ghost use Prim.Native.Nat.{_^_};
 ghost use lib.IntN.{pos, natAbs};
 ghost use Rattle.whole.specs.Number.{Within, isWithin};
 ghost use Rattle.whole.specs.Number.{lesser as lesserOf, greater as greaterOf};
+ghost use Rattle.whole.specs.Divided.{divisionOf};
 ghost use Rattle.whole.specs.Rounded.{rounded as roundedOf};
+use crate::Division;
 
 /// Whether both tests hold.
 pub fn both(a: bool, b: bool) -> bool
@@ -73,4 +75,21 @@ pub fn rounded(n: i64, d: i64) -> i64
         return (n - half) / d;
     }
     (n + half) / d
+}
+
+/// How n / d comes out, for numbers within 2^61 and d not 0.
+pub fn division(n: i64, d: i64) -> Division
+    requires { ⌜ Within n (2 ^ 61) ⌝ }
+    requires { ⌜ Within d (2 ^ 61) ⌝ }
+    requires { ⌜ d ≢ pos 0 ⌝ }
+    ensures { λ r. ⌜ r ≡ divisionOf n d ⌝ }
+{
+    let rest = magnitude(n % d);
+    if rest == 0 {
+        return Division::Exact;
+    }
+    if 2 * rest == magnitude(d) {
+        return Division::Half;
+    }
+    Division::Rounded
 }

@@ -33,13 +33,14 @@ corners-of-requires-2 c κs = search needs
 returns : tie.Need-returns
 unfolding joinAt
 returns c =
-    let b = c .before .before .before .before in
+    let corners = c .before in
+    let b = corners .before .before .before .before in
     let a = b .before in
     let k = a .before .before .before in
     let s = k .before .before .before .args .s .now in
     let first = a .line-at .ensures ∙ ap (lineAt s) (a .before .after2 .ensures ∙ ap nextPlace (a .before .before .after .ensures)) in
     let second = b .line-at2 .ensures ∙ ap (λ l. lineAt s (l .next)) first in
-    simp (k .kind-of .ensures ∙ ap kindOf (k .before .byte-at .ensures), c .before .corners-of .ensures ∙ ap (λ l. cornersOf (l .line .start) (l .line .end)) first, c .corners-of2 .ensures ∙ ap (λ l. cornersOf (l .line .start) (l .line .end)) second, second)
+    simp (k .kind-of .ensures ∙ ap kindOf (k .before .byte-at .ensures), corners .before .corners-of .ensures ∙ ap (λ l. cornersOf (l .line .start) (l .line .end)) first, corners .corners-of2 .ensures ∙ ap (λ l. cornersOf (l .line .start) (l .line .end)) second, c .no-crossings .ensures, second)
 
 pub join-at-spec : {M : Type 1} → statement M
 join-at-spec =
@@ -53,4 +54,5 @@ join-at-spec =
     line-at-requires-2
     corners-of-requires
     corners-of-requires-2
+    (λ c κs. search needs)
     returns)

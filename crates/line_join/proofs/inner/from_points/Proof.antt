@@ -3,7 +3,7 @@ use lib.Dec.{lit≤}
 use Rattle.shapes.specs.Shape.{lineOf}
 use Rattle.shapes.proofs.Laws.{near-more}
 use Rattle.extents.specs.Edges.{extentsOf}
-use Rattle.line_join.specs.Join.{bentOf, joinOf}
+use Rattle.line_join.specs.Join.{tracedOf, joinOf}
 use Rattle.shapes.proofs.Widths.{thin-held, thin-back}
 use Rattle.line_join.proofs.Room.{extents-room, edges-room}
 use Rattle.line_join.proofs.inner.from_points.Statement.{statement}
@@ -38,7 +38,7 @@ unfolding joinOf
 returns c =
     let e = c .before in
     let s = e .before .before in
-    c .bent .ensures ∙ ap (bentOf (e .before .extents .result) (e .extents2 .result) (s .args .b)) (thin-held (s .pre .1 .1 .1) .is) ∙ simp (first (e .before), second e)
+    c .bent .ensures ∙ ap (tracedOf (e .before .extents .result) (e .extents2 .result) (s .args .b)) (thin-held (s .pre .1 .1 .1) .is) ∙ simp (first (e .before), second e)
 
 pub from-points-spec : {M : Type 1} → statement M
 from-points-spec = tie.close (tie.spec extents-requires extents-requires-2 bent-requires returns)
