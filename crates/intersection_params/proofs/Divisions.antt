@@ -1,11 +1,11 @@
 -- 02's K4: how the coordinates of a crossing come out, said of the true crossing. Assumes nothing.
-use mathlib.Core.Path.{_≡_, refl, sym, ap, subst, _∙_}
+use mathlib.Core.Path.{_≡_, refl, subst, _∙_}
 use mathlib.Core.Logic.{_≢_, _↔_}
 use Prim.Native.Nat.{ℕ}
 use native.Mathlib.Omega.{arith}
-use lib.IntN.{ℤ, pos, negsuc, _-ℤ_, _*ℤ_}
+use lib.IntN.{pos, _-ℤ_, _*ℤ_}
 use Rattle.whole.specs.declared.Division.the-variants.{Exact}
-use Rattle.whole.specs.Divided.{divisionOf, Whole, Halfway, ComesOut, Further}
+use Rattle.whole.specs.Divided.{divisionOf, Whole, Halfway, Further}
 use Rattle.whole.proofs.Divided.{comes-out, division-exactly, comes-out-ratio, exact-nearest, half-nearest}
 use Rattle.whole.proofs.Products.{*ℤ-id, *ℤ-null}
 use Rattle.whole.proofs.Ring.{con, neg, _⊖_, _⊗_, _≈_, since, ring}

@@ -7,7 +7,6 @@ use native.Mathlib.Omega.{arith}
 use lib.Dec.{eqb, lit<}
 use lib.IntN.{ℤ, pos, natAbs, _-ℤ_, _*ℤ_, ℤ-discrete}
 use lib.Signed.{ltZ, _<ℤ_}
-use Rattle.whole.specs.Number.{eqZ}
 use Rattle.whole.specs.Rounded.{rounded}
 use Rattle.whole.specs.declared.Division.{Division}
 use Rattle.whole.specs.declared.Division.the-variants.{Exact, Half, Rounded}

@@ -1,14 +1,12 @@
 -- What 01 says in words of joins. Assumes nothing.
 use mathlib.Core.Path.{_≡_, refl, sym, ap, subst, _∙_}
 use mathlib.Core.Logic.{_↔_, inl, inr}
-use mathlib.Core.Bool.{Bool, true, false, cond}
+use mathlib.Core.Bool.{Bool, true, false}
 use Prim.Native.Nat.{ℕ, _+_, _*_, _≤_}
 use native.Mathlib.Omega.{arith}
 use borrow.Author.Tests.{ltb-true}
-use lib.Dec.{T}
 use lib.IntN.{ℤ, pos, negsuc, natAbs, _-ℤ_, _*ℤ_}
 use lib.Signed.{ltZ, _≤ℤ_, _<ℤ_}
-use Rattle.whole.specs.Number.{eqZ}
 use Rattle.whole.proofs.Squares.{squares-beyond-left, squares-beyond-right, lt-not-le, not-le-lt}
 use Rattle.whole.proofs.Tests.{le-iff, lt-iff}
 use Rattle.shapes.specs.declared.Point.{Point}
@@ -19,7 +17,7 @@ use Rattle.shapes.specs.Limits.{widthLimit, lineLimit}
 use Rattle.shapes.specs.Shape.{Near, pointOf, lineOf, minus, dotProduct, squaredLength}
 use Rattle.intersection_params.specs.declared.Intersection.{Intersection}
 use Rattle.intersection_params.specs.declared.Intersection.the-variants.{At, Colinear}
-use Rattle.intersection_params.specs.Crossing.{solutionOf, drawnOf, crossingOf, nearlyColinear}
+use Rattle.intersection_params.specs.Crossing.{crossingOf, nearlyColinear}
 use Rattle.intersection_params.specs.Words.{bend}
 use Rattle.intersection_params.proofs.Laws.{colinear-exactly}
 use Rattle.extents.specs.declared.Edges.{Edges}

@@ -66,14 +66,15 @@ pub struct Met {
     pub origin: Origin,
 }
 
-/// A join: its kind, the corners at which the line before it ends (the Rust's `first_edge_end`), and those at which the
-/// line after it begins (`second_edge_start`). A miter uses both crossings of its edges, a bevel the one on its inner side,
-/// unless they run nearly alike; every other corner is an edge's end.
+/// A join: its kind, the corners at which the line before it ends (the Rust's `first_edge_end`), those at which the
+/// line after it begins (`second_edge_start`), and where they come from. A miter uses both crossings of its edges, a bevel
+/// the one on its inner side, unless they run nearly alike; every other corner is an edge's end.
 pub struct Join {
     pub kind: Kind,
+    /// A few bytes, which beside those of the kind take no room of their own.
+    pub origins: Origins,
     pub ending: Corners,
     pub starting: Corners,
-    pub origins: Origins,
 }
 
 /// The answer of a constructor.

@@ -10,7 +10,6 @@ use shapes::Line;
 use shapes::Point;
 use shapes::Side;
 use test_joins::say_divisions;
-use test_text::after;
 use test_text::line_at;
 use test_text::say_bool;
 use test_text::say_point;

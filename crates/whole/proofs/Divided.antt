@@ -12,13 +12,13 @@ use lib.IntN.{ℤ, pos, negsuc, natAbs, negℤ, _+ℤ_, _-ℤ_, _*ℤ_, negℤ-n
 use lib.Signed.{mag, quotZ}
 use Rattle.whole.specs.declared.Division.{Division}
 use Rattle.whole.specs.declared.Division.the-variants.{Exact, Half, Rounded}
-use Rattle.whole.specs.Rounded.{rounded, Nearest}
+use Rattle.whole.specs.Rounded.{Nearest}
 use Rattle.whole.specs.Divided.{divisionOf, Whole, Halfway, ComesOut, Further}
 use Rattle.whole.proofs.Linear.{linear, sum, opp, times}
 use Rattle.whole.proofs.Bounds.{abs-neg, abs-mul}
 use Rattle.whole.proofs.Products.{negℤ-*ℤ, *ℤ-cancel}
 use Rattle.whole.proofs.Ring.{con, neg, _⊕_, _⊖_, _⊗_, _≈_, since, ring}
-use Rattle.whole.proofs.Laws.{signed, some-abs, rounded-nearest, nearest-unique}
+use Rattle.whole.proofs.Laws.{signed, some-abs, nearest-unique}
 
 -- ---- by the remainder
 

@@ -1,6 +1,5 @@
 use mathlib.Core.Path.{_≡_, sym, ap, _∙_}
 use borrow.Author.Needs.{needs}
-use Rattle.intersection_params.specs.declared.Intersection.the-variants.{At}
 use Rattle.intersection_params.specs.Crossing.{drawnOf, crossingOf, divisionsOf}
 use Rattle.intersection_params.proofs.Room.{solution-roomy, some-drawn}
 use Rattle.line_join.specs.Origins.{originOf}
@@ -45,13 +44,4 @@ returns-3 c =
 pub meeting-spec : {M : Type 1} → statement M
 meeting-spec =
     tie.close
-    (tie.spec
-    (λ c κs. search needs)
-    drawn-requires
-    (λ c. search needs)
-    (λ c. search needs)
-    returns
-    (λ c κs. search needs)
-    returns-2
-    divisions-requires
-    returns-3)
+    (tie.spec (λ c κs. search needs) drawn-requires (λ c. search needs) (λ c. search needs) returns (λ c κs. search needs) returns-2 divisions-requires returns-3)
