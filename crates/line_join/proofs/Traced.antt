@@ -62,7 +62,7 @@ module _ (first second : Edges) (s : Side) where
       → (near : Bool) → nearlyColinear (edgeOn s second) (edgeOn s first) ≡ near → ComesFrom first second s j origin
   used-by j kept met one true e =
       let end = meet-ended (edgeOn s second) (edgeOn s first) (outer s (j .ending)) (met .outside) e .0 (met .at) .at-end in
-      rw (origin-met met true e) (record { taken = inr e; ending-at = end; starting-at = inr (one ∙ end) })
+      rw (origin-met met true e) (inr (record { alike = e; ending-at = end; starting-at = one ∙ end }))
   used-by j kept met one false e =
       let drawn = meet-drawn (edgeOn s second) (edgeOn s first) (outer s (j .ending)) (met .outside) e .0 (met .at) in
       rw (origin-met met false e)
@@ -83,15 +83,15 @@ module _ (first second : Edges) where
   miter-from b Right = used first second Right _ (λ none. none) (met-on b Right) refl
 
   bevel-from : {side : Side} {c : Corners} → Bend first second side c → (s : Side) → let j = traced first second (cut side c first second) in ComesFrom first second s j (originOn s (j .origins))
-  bevel-from {side = Left} b Left = record { taken = inl refl; ending-at = refl; starting-at = inl refl }
+  bevel-from {side = Left} b Left = inl (record { by-kind = refl; ending-at = refl; starting-at = refl })
   bevel-from {side = Left} b Right = used first second Right _ (λ e. let z : _≡_ {A = ℕ} 0 1 = cc in absurd (omega arith)) (met-on b Right) refl
   bevel-from {side = Right} b Left = used first second Left _ (λ e. let z : _≡_ {A = ℕ} 0 1 = cc in absurd (omega arith)) (met-on b Left) refl
-  bevel-from {side = Right} b Right = record { taken = inl refl; ending-at = refl; starting-at = inl refl }
+  bevel-from {side = Right} b Right = inl (record { by-kind = refl; ending-at = refl; starting-at = refl })
 
   -- a join that takes ends of edges on both sides
   plain-from : (k : Kind) (s : Side) → TakesEnds k s → let j = plain k first second in ComesFrom first second s j (originOn s (j .origins))
-  plain-from k Left t = record { taken = inl t; ending-at = refl; starting-at = inl refl }
-  plain-from k Right t = record { taken = inl t; ending-at = refl; starting-at = inl refl }
+  plain-from k Left t = inl (record { by-kind = t; ending-at = refl; starting-at = refl })
+  plain-from k Right t = inl (record { by-kind = t; ending-at = refl; starting-at = refl })
 
   module _ (mid : Point) (w : ℤ) (s : Side) where
     abbrev j : Join
@@ -108,12 +108,15 @@ module _ (first second : Edges) where
     comes-from : ComesFrom first second s j (originOn s (j .origins))
     comes-from = from-by (bentOf first second mid w .kind) refl
 
+    taken : ComesFrom first second s j NotACrossing → EndTaken first second s j
+    taken = ⊎-elim (λ e. inl (e .by-kind)) (λ e. inr (e .alike))
+
     one-origin : (o p : Origin) → ComesFrom first second s j o → ComesFrom first second s j p → o ≡ p
     one-origin (Crossing ds) (Crossing es) c d =
         let exactly = divisions-exactly (edgeOn s second) (edgeOn s first) (c .ending-at .crosses) in
         ap Crossing (sym (exactly ds .1 (c .divided)) ∙ exactly es .1 (d .divided))
-    one-origin (Crossing ds) NotACrossing c d = absurd (c .not-taken (d .taken))
-    one-origin NotACrossing (Crossing es) c d = absurd (d .not-taken (c .taken))
+    one-origin (Crossing ds) NotACrossing c d = absurd (c .not-taken (taken d))
+    one-origin NotACrossing (Crossing es) c d = absurd (d .not-taken (taken c))
     one-origin NotACrossing NotACrossing c d = refl
 
     -- a side has an origin exactly when its corners come from there
@@ -126,7 +129,7 @@ module _ (first second : Edges) where
 
     -- and none exactly when the end of an edge was taken
     pub none-exactly : (originOn s (j .origins) ≡ NotACrossing) ↔ EndTaken first second s j
-    none-exactly = (λ e. origin-exactly NotACrossing .0 e .taken, none-by (originOn s (j .origins)) comes-from)
+    none-exactly = (λ e. taken (origin-exactly NotACrossing .0 e), none-by (originOn s (j .origins)) comes-from)
 
 -- the join of three points
 module _ (a b c : Point) (w : ℤ) (o : Offset) (s : Side) where

@@ -115,15 +115,21 @@ TakesEnds Start s = Unit
 TakesEnds End s = Unit
 
 module _ (first second : Edges) (s : Side) (j : Join) where
-  -- by the kind, or since the edges run nearly alike
+  -- the corners of a side are the ends of its edges, by the join's kind
+  pub record AtEdges : Type 0 where
+    pub by-kind : TakesEnds (j .kind) s
+    pub ending-at : outer s (j .ending) ≡ edgeOn s first .end
+    pub starting-at : outer s (j .starting) ≡ edgeOn s second .start
+
+  -- they are one, the first edge's end, since the edges run nearly alike
+  pub record AtEnd : Type 0 where
+    pub alike : nearlyColinear (edgeOn s second) (edgeOn s first) ≡ true
+    pub ending-at : outer s (j .ending) ≡ edgeOn s first .end
+    pub starting-at : outer s (j .starting) ≡ edgeOn s first .end
+
+  -- an edge's end was taken
   abbrev pub EndTaken : Type 0
   EndTaken = TakesEnds (j .kind) s ⊎ (nearlyColinear (edgeOn s second) (edgeOn s first) ≡ true)
-
-  -- the corners of a side are ends of edges
-  pub record AtEnds : Type 0 where
-    pub taken : EndTaken
-    pub ending-at : outer s (j .ending) ≡ edgeOn s first .end
-    pub starting-at : (outer s (j .starting) ≡ edgeOn s second .start) ⊎ (outer s (j .starting) ≡ edgeOn s first .end)
 
   -- they are one, the drawn crossing of the side's edges, whose coordinates come out so
   pub record AtCrossing (ds : Divisions) : Type 0 where
@@ -135,5 +141,5 @@ module _ (first second : Edges) (s : Side) (j : Join) where
 
   -- what an origin says of its side's corners
   abbrev pub ComesFrom : Origin → Type 0
+  ComesFrom NotACrossing = AtEdges ⊎ AtEnd
   ComesFrom (Crossing ds) = AtCrossing ds
-  ComesFrom NotACrossing = AtEnds
