@@ -181,8 +181,9 @@ roundedBevel =
 -- 24, so both crossings are replaced by the first edges' ends. (10,2) is on the right of y = 1: no overlap. (4,-1) is 1 from (4,0): kept.
 unfoldable pub nearMiter : Case
 nearMiter =
+    let tip = cornersOf (pointOf (pos 4) (negsuc 0)) (pointOf (pos 4) (pos 1)) in
     joins (pointOf (pos 0) (pos 0)) (pointOf (pos 4) (pos 0)) (pointOf (pos 10) (pos 1)) (pos 3) offset.None
-    (alike Miter (cornersOf (pointOf (pos 4) (negsuc 0)) (pointOf (pos 4) (pos 1))))
+    (record { kind = Miter; ending = tip; starting = tip; origins = noCrossings })
 
 -- ---- a join at width 7: seven Normal parallels, so that the edges are three pixels to either side; and its caps
 

@@ -101,7 +101,7 @@ module _ (first second : Edges) (mid : Point) (w : ℤ) where
   right-nowhere (At l s) = refl
   right-nowhere Colinear = refl
 
-  -- each of the four, whole
+  -- each of the four, whole but for its origins
   pub miter-is : (h : Short first second mid w) → bentOf first second mid w ≡ alike kind.Miter (h .crossing)
   unfolding bentAt
   miter-is h = bend-is (h .bend) ∙ simp (h .apart, reaches-exactly mid (outer (h .side) (h .crossing)) w .1 (h .within))

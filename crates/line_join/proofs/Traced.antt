@@ -5,6 +5,7 @@ use mathlib.Core.Bool.{Bool, true, false, cond}
 use Prim.Native.Nat.{ℕ}
 use native.Mathlib.Omega.{arith}
 use lib.IntN.{ℤ}
+use Rattle.whole.specs.declared.Division.the-variants.{Exact}
 use Rattle.whole.proofs.Tests.{clash}
 use Rattle.shapes.specs.declared.Point.{Point}
 use Rattle.shapes.specs.declared.Line.{Line}
@@ -16,7 +17,8 @@ use Rattle.shapes.specs.Shape.{lineOf}
 use Rattle.intersection_params.specs.declared.Intersection.{Intersection}
 use Rattle.intersection_params.specs.declared.Intersection.the-variants.{At, Colinear}
 use Rattle.intersection_params.specs.Crossing.{solutionOf, crossingOf, divisionsOf, nearlyColinear}
-use Rattle.intersection_params.proofs.Divisions.{divisions-exactly}
+use Rattle.intersection_params.specs.Words.{TrueCrossing, wholePoint}
+use Rattle.intersection_params.proofs.Divisions.{divisions-exactly, exact-exactly}
 use Rattle.extents.specs.declared.Edges.{Edges}
 use Rattle.extents.specs.Edges.{extentsOf}
 use Rattle.line_join.specs.declared.Kind.{Kind}
@@ -123,6 +125,14 @@ module _ (first second : Edges) where
     pub origin-exactly : (o : Origin) → (originOn s (j .origins) ≡ o) ↔ ComesFrom first second s j o
     origin-exactly o = (λ e. subst (ComesFrom first second s j) e comes-from, one-origin (originOn s (j .origins)) o comes-from)
 
+    -- the corner of a crossing is the true crossing of the side's edges exactly when both coordinates are exact
+    pub exact-corner : (ds : Divisions) → originOn s (j .origins) ≡ Crossing ds → (ds ≡ record { x = Exact; y = Exact }) ↔ TrueCrossing (edgeOn s second) (edgeOn s first) (wholePoint (outer s (j .ending)))
+    exact-corner ds e =
+        let c = origin-exactly (Crossing ds) .0 e in
+        let is = divisions-exactly (edgeOn s second) (edgeOn s first) (c .ending-at .crosses) ds .1 (c .divided) in
+        let exactly = exact-exactly (c .ending-at) in
+        (λ exact. exactly .0 (is ∙ exact), λ true-one. sym is ∙ exactly .1 true-one)
+
     none-by : (o : Origin) → ComesFrom first second s j o → EndTaken first second s j → o ≡ NotACrossing
     none-by (Crossing ds) c taken = absurd (c .not-taken taken)
     none-by NotACrossing c taken = refl
@@ -139,6 +149,11 @@ module _ (a b c : Point) (w : ℤ) (o : Offset) (s : Side) where
   abbrev Second : Edges
   Second = extentsOf (lineOf b c) w o
 
+  -- it is what the laws on kinds and corners speak of, with its origins set
+  pub join-traced : joinOf a b c w o ≡ traced First Second (bentOf First Second b w)
+  unfolding joinOf
+  join-traced = refl
+
   pub join-origin-exactly : (from : Origin) → let j = joinOf a b c w o in (originOn s (j .origins) ≡ from) ↔ ComesFrom First Second s j from
   unfolding joinOf
   join-origin-exactly from = origin-exactly First Second b w s from
@@ -146,6 +161,11 @@ module _ (a b c : Point) (w : ℤ) (o : Offset) (s : Side) where
   pub join-none-exactly : let j = joinOf a b c w o in (originOn s (j .origins) ≡ NotACrossing) ↔ EndTaken First Second s j
   unfolding joinOf
   join-none-exactly = none-exactly First Second b w s
+
+  pub join-exact-corner : (ds : Divisions) → let j = joinOf a b c w o in
+      originOn s (j .origins) ≡ Crossing ds → (ds ≡ record { x = Exact; y = Exact }) ↔ TrueCrossing (edgeOn s Second) (edgeOn s First) (wholePoint (outer s (j .ending)))
+  unfolding joinOf
+  join-exact-corner ds e = exact-corner First Second b w s ds e
 
 -- a route's first and last join take ends of edges
 module _ (a b : Point) (w : ℤ) (o : Offset) where

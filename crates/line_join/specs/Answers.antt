@@ -28,7 +28,7 @@ use Rattle.line_join.specs.Origins.{noCrossings}
 use Rattle.line_join.specs.Join.{cornersOf, startOf, endOf, joinOf}
 use Rattle.line_join.specs.Caps.{isJoinNear, fillerOf, startCapsOf, endCapsOf, isDegenerate}
 
--- ---- values: each answer in 01's numbers, 0 where there are none
+-- ---- values: each answer in 01's numbers, 0 where there are none, and no crossing on either side
 
 abbrev pub noCorners : Corners
 noCorners = cornersOf noPoint noPoint

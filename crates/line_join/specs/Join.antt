@@ -17,7 +17,7 @@ use Rattle.line_join.specs.declared.Kind.{Kind}
 use Rattle.line_join.specs.declared.Kind.the-variants as kind
 use Rattle.line_join.specs.declared.Corners.{Corners}
 use Rattle.line_join.specs.declared.Join.{Join}
-use Rattle.line_join.specs.declared.Met.{Met}
+use Rattle.line_join.specs.declared.bend.Meeting.{Meeting}
 use Rattle.line_join.specs.Miter.{reaches}
 use Rattle.line_join.specs.Origins.{noCrossings, originOf, traced}
 
@@ -33,7 +33,7 @@ unfoldable pub meet : Line → Line → Intersection
 meet second first = mended (nearlyColinear second first) (first .end) (crossingOf second first)
 
 -- with where it comes from
-abbrev pub meetingOf : Line → Line → Met
+abbrev pub meetingOf : Line → Line → Meeting
 meetingOf second first = record { found = meet second first; origin = originOf second first }
 
 -- ---- corners
@@ -58,7 +58,7 @@ abbrev pub cutOff : Side → Corners → Corners → Corners
 cutOff Left edge crossing = cornersOf (edge .left) (crossing .right)
 cutOff Right edge crossing = cornersOf (crossing .left) (edge .right)
 
--- ---- joins, by their corners; their origins are set when they are made
+-- ---- joins, by their corners; `traced` sets their origins in the end
 
 -- one line begins just where the other ends
 abbrev pub alike : Kind → Corners → Join

@@ -36,14 +36,14 @@ originOf second first = originBy (nearlyColinear second first) (divisionsOf (sol
 -- ---- those of a join, by its kind
 
 -- the outer side was cut off, and the inner one stays
-abbrev pub innerOf : Side → Origin → Origin → Origins
-innerOf Left l r = originsOf NotACrossing r
-innerOf Right l r = originsOf l NotACrossing
+abbrev pub cutOrigins : Side → Origin → Origin → Origins
+cutOrigins Left l r = originsOf NotACrossing r
+cutOrigins Right l r = originsOf l NotACrossing
 
 -- a miter uses both crossings, a bevel the one on its inner side, every other join none
 abbrev pub originsBy : Kind → Origin → Origin → Origins
 originsBy Miter l r = originsOf l r
-originsBy (Bevel s) l r = innerOf s l r
+originsBy (Bevel s) l r = cutOrigins s l r
 originsBy (Degenerate s) l r = noCrossings
 originsBy Colinear l r = noCrossings
 originsBy Start l r = noCrossings

@@ -10,7 +10,6 @@ ghost use Rattle.line_join.specs.Caps.{CornersNear};
 use crate::Corners;
 use crate::Join;
 use crate::Kind;
-use crate::Met;
 use crate::Origin;
 use crate::miter::is_short;
 use crate::trace::no_crossings;
@@ -27,6 +26,13 @@ use shapes::Line;
 use shapes::Point;
 use shapes::Side;
 
+/// What two edges meet at: their crossing or the end of the first of them, or nothing where they are parallel; and where that
+/// comes from.
+pub struct Meeting {
+    pub found: Intersection,
+    pub origin: Origin,
+}
+
 /// The join of two thick lines that meet at `mid`, from their edges.
 pub fn bent(first: Edges, second: Edges, mid: Point, width: i64) -> Join
     requires { ⌜ EdgesNear lineLimit first ⌝ }
@@ -35,10 +41,12 @@ pub fn bent(first: Edges, second: Edges, mid: Point, width: i64) -> Join
     requires { ⌜ Thin width ⌝ }
     ensures { λ r. ⌜ r ≡ tracedOf first second mid width ⌝ }
 {
-    let on_left = meeting(second.left, first.left);
-    let on_right = meeting(second.right, first.right);
+    let on_left = meet(second.left, first.left);
+    let on_right = meet(second.right, first.right);
     let found_left = on_left.found;
     let found_right = on_right.found;
+    let left_origin = on_left.origin;
+    let right_origin = on_right.origin;
     let Intersection::At(left, side) = found_left else {
         return at_edges(Kind::Colinear, first, second);
     };
@@ -47,7 +55,7 @@ pub fn bent(first: Edges, second: Edges, mid: Point, width: i64) -> Join
     };
     let crossing = Corners { left, right };
     let join = bent_at(side, crossing, first, second, mid, width);
-    traced(join, on_left, on_right)
+    traced(join, left_origin, right_origin)
 }
 
 /// The same where the left and the right edges meet at the two corners of `crossing`; its origins are not set yet.
@@ -77,7 +85,7 @@ pub fn bent_at(
 }
 
 /// Where two edges cross; where they run so nearly alike that rounding spoils the crossing, the end of the first edge.
-pub fn meeting(second: Line, first: Line) -> Met
+pub fn meet(second: Line, first: Line) -> Meeting
     requires { ⌜ LineNear lineLimit second ⌝ }
     requires { ⌜ LineNear lineLimit first ⌝ }
     ensures { λ r. ⌜ r ≡ meetingOf second first ⌝ }
@@ -85,18 +93,18 @@ pub fn meeting(second: Line, first: Line) -> Met
     let end = first.end;
     let solution = solve(second, first);
     let Intersection::At(point, side) = drawn(solution) else {
-        return Met {
+        return Meeting {
             found: Intersection::Colinear,
             origin: Origin::NotACrossing,
         };
     };
     if nearly_colinear(second, first) {
-        return Met {
+        return Meeting {
             found: Intersection::At(end, side),
             origin: Origin::NotACrossing,
         };
     }
-    Met {
+    Meeting {
         found: Intersection::At(point, side),
         origin: Origin::Crossing(divisions(solution)),
     }

@@ -10,7 +10,6 @@ pub mod miter; // miter.rt: how long a miter may be
 pub mod trace; // trace.rt: where the corners of a join come from
 
 use inner::is_join_near;
-use intersection_params::Intersection;
 use shapes::Divisions;
 use shapes::Line;
 use shapes::Offset;
@@ -48,9 +47,10 @@ pub struct Corners {
 
 /// Where a corner comes from.
 pub enum Origin {
-    /// The end of an edge.
+    /// The end of an edge. It may lie on a crossing all the same: nothing is said of that.
     NotACrossing,
-    /// The crossing of two edges, with how its coordinates came out: the corner is the true crossing where both are exact.
+    /// The crossing of the edges of its side, with how its coordinates came out: the corner is the true crossing exactly where
+    /// both are exact.
     Crossing(Divisions),
 }
 
@@ -58,12 +58,6 @@ pub enum Origin {
 pub struct Origins {
     pub left: Origin,
     pub right: Origin,
-}
-
-/// What two edges meet at: their crossing, or the end of the first of them.
-pub struct Met {
-    pub found: Intersection,
-    pub origin: Origin,
 }
 
 /// A join: its kind, the corners at which the line before it ends (the Rust's `first_edge_end`), those at which the

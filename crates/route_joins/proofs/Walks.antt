@@ -61,11 +61,11 @@ module _ (k refusal count : ℕ) (segment : ℕ → Segment) (place : ℕ) where
       }
 
 -- refused, every other number is 0: of both joins the kind and the eight coordinates too; and no corner is a crossing
-abbrev origin : Point
-origin = record { x = pos 0; y = pos 0 }
+abbrev at-zero : Point
+at-zero = record { x = pos 0; y = pos 0 }
 
 abbrev zeros : JoinValues
-zeros = record { refusal = 0; kind = 0; ending = record { left = origin; right = origin }; starting = record { left = origin; right = origin }; origins = noCrossings }
+zeros = record { refusal = 0; kind = 0; ending = record { left = at-zero; right = at-zero }; starting = record { left = at-zero; right = at-zero }; origins = noCrossings }
 
 pub refused-zeros : (n : ℕ) → stepValues (Refused n) ≡ record { refusal = n; found = 0; start = zeros; end = zeros }
 unfolding stepValues

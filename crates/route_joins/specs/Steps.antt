@@ -19,7 +19,7 @@ use Rattle.route_joins.specs.declared.Step.the-variants.{Drawn, End, Ref
 
 -- ---- the cases of an answer
 
--- the refusal or 0; 1 for a segment, 2 for the end, 0 for a refusal; the segment's two joins, all 0 where there is none
+-- the refusal or 0; 1 for a segment, 2 for the end, 0 for a refusal; the segment's two joins, and where there is none what stands for no join
 pub record StepValues : Type 0 where
   pub refusal : ℕ
   pub found : ℕ

@@ -1,12 +1,13 @@
 //! Steps sample routes in place, from the first segment to the end and once more. A line tells what a step answers, behind the place
-//! that it leaves its walk at: of a segment the right edge, the left edge, and the start and end of its span on one row. The spans
-//! of a route go to a board of that row, whose runs are then listed to twelve numbers and to four records. The last three walks are refused.
+//! that it leaves its walk at: of a segment the right edge, the left edge, the start and end of its span on one row, and the origins of its two joins. The
+//! spans of a route go to a board of that row, whose runs are then listed to twelve numbers and to four records. The last three walks are refused.
 mod owners; // owners.rt: owners that lend what is worked on in place
 
 use board::Board;
 use board::Run;
 use route_joins::Step;
 use shapes::Offset;
+use test_joins::say_origins;
 use test_text::say_line;
 use test_text::say_numbers;
 use thick_segment::Segment;
@@ -24,6 +25,8 @@ fn draw(segment: Segment, board: Board) -> Board {
     let span = thick_segment::span(segment, board.row).span;
     say_next(span.start);
     say_next(span.end);
+    say_origins(segment.start);
+    say_origins(segment.end);
     board::offer(board, span).board
 }
 

@@ -73,12 +73,17 @@ pub fn say_join(join: Join) {
     let kind = join.kind;
     let ending = join.ending;
     let starting = join.starting;
-    let origins = join.origins;
-    let left = origins.left;
-    let right = origins.right;
     say_kind(kind);
     say_corners(ending);
     say_corners(starting);
+    say_origins(join);
+}
+
+/// Writes the origins of the left and of the right corners of a join.
+pub fn say_origins(join: Join) {
+    let origins = join.origins;
+    let left = origins.left;
+    let right = origins.right;
     say_origin(left);
     say_origin(right);
 }

@@ -14,11 +14,11 @@ all : {l m r s : Origin} {j k : Join} → l ≡ m → r ≡ s → j ≡ k → tr
 all e f g = cc
 
 -- what the left and the right edges meet at
-left : (c : tie.After-meeting) → let a = c .before .args in c .meeting .result .found ≡ meet (a .second .left) (a .first .left)
-left c = ap (λ m. m .found) (c .meeting .ensures)
+left : (c : tie.After-meet) → let a = c .before .args in c .meet .result .found ≡ meet (a .second .left) (a .first .left)
+left c = ap (λ m. m .found) (c .meet .ensures)
 
-right : (c : tie.After-meeting2) → let a = c .before .before .args in c .meeting2 .result .found ≡ meet (a .second .right) (a .first .right)
-right c = ap (λ m. m .found) (c .meeting2 .ensures)
+right : (c : tie.After-meet2) → let a = c .before .before .args in c .meet2 .result .found ≡ meet (a .second .right) (a .first .right)
+right c = ap (λ m. m .found) (c .meet2 .ensures)
 
 -- it is a point
 left-at : (c : tie.After-found-left) → let a = c .before .before .before .before .args in meet (a .second .left) (a .first .left) ≡ At (c .found-left .given .0 .0) (c .found-left .given .0 .1 .0)
@@ -64,7 +64,7 @@ returns-3 c =
     let width = thin-held (m .before .before .pre .1 .1 .1) .is in
     let join = b .bent-at .ensures ∙ ap (bentAt (l .found-left .given .0 .1 .0) (cornersOf (l .found-left .given .0 .0) (r .found-right .given .0 .0)) (a .first) (a .second) (a .mid)) width in
     c .traced .ensures
-    ∙ all (ap (λ x. x .origin) (m .before .meeting .ensures)) (ap (λ x. x .origin) (m .meeting2 .ensures)) join
+    ∙ all (ap (λ x. x .origin) (m .before .meet .ensures)) (ap (λ x. x .origin) (m .meet2 .ensures)) join
     ∙ simp (left-at l, right-at r)
 
 pub bent-spec : {M : Type 1} → statement M

@@ -12,7 +12,7 @@ returns-2 : tie.Need-returns-2
 returns-2 c =
     let known = c .before .before in
     let a = known .before .before .args in
-    c .inner-origin .ensures ∙ ap (λ k. originsBy k (a .left) (a .right)) (sym (known .kind .given .1))
+    c .cut-origins .ensures ∙ ap (λ k. originsBy k (a .left) (a .right)) (sym (known .kind .given .1))
 
 returns-3 : tie.Need-returns-3
 returns-3 c = let a = c .before .before .args in c .no-crossings .ensures ∙ sym (not-crossed (a .kind) (a .left) (a .right) (c .before .match .keys3))

@@ -4,8 +4,8 @@ use Rattle.intersection_params.specs.Crossing.{drawnOf, crossingOf, divisionsOf
 use Rattle.intersection_params.proofs.Room.{solution-roomy, some-drawn}
 use Rattle.line_join.specs.Origins.{originOf}
 use Rattle.line_join.specs.Join.{meet}
-use Rattle.line_join.proofs.bend.meeting.Statement.{statement}
-use Rattle.line_join.proofs.bend.meeting.Tie as tie
+use Rattle.line_join.proofs.bend.meet.Statement.{statement}
+use Rattle.line_join.proofs.bend.meet.Tie as tie
 
 -- what is drawn of the edges' solution
 crossed : (c : tie.After-drawn) → let a = c .before .before .before .args in c .drawn .result ≡ crossingOf (a .second) (a .first)
@@ -41,7 +41,7 @@ returns-3 c =
     let d = at .before .before in
     simp (sym (crossed d) ∙ at .point .given .1, sym (else .before .nearly-colinear .ensures) ∙ else .if1 .left, c .divisions .ensures ∙ ap divisionsOf (d .before .solve .ensures))
 
-pub meeting-spec : {M : Type 1} → statement M
-meeting-spec =
+pub meet-spec : {M : Type 1} → statement M
+meet-spec =
     tie.close
     (tie.spec (λ c κs. search needs) drawn-requires (λ c. search needs) (λ c. search needs) returns (λ c κs. search needs) returns-2 divisions-requires returns-3)
