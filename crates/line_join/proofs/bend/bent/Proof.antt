@@ -27,6 +27,10 @@ left-at c = sym (left (c .before .before .before)) ∙ c .found-left .given .1
 right-at : (c : tie.After-found-right) → let a = c .before .before .before .before .before .before .before .args in meet (a .second .right) (a .first .right) ≡ At (c .found-right .given .0 .0) (c .found-right .given .0 .1 .0)
 right-at c = sym (right (c .before .before .before .before .before)) ∙ c .found-right .given .1
 
+-- the join's origins are those of the two meetings
+with-origins : (c : tie.After-traced) → let m = c .before .before .before .before .before .before .before .before in c .traced .result ≡ tracedBy (m .before .meet .result .origin) (m .meet2 .result .origin) (c .before .bent-at .result)
+with-origins c = c .traced .ensures
+
 returns : tie.Need-returns
 unfolding bentOf
 returns c =
@@ -63,7 +67,7 @@ returns-3 c =
     let a = m .before .before .args in
     let width = thin-held (m .before .before .pre .1 .1 .1) .is in
     let join = b .bent-at .ensures ∙ ap (bentAt (l .found-left .given .0 .1 .0) (cornersOf (l .found-left .given .0 .0) (r .found-right .given .0 .0)) (a .first) (a .second) (a .mid)) width in
-    c .traced .ensures
+    with-origins c
     ∙ all (ap (λ x. x .origin) (m .before .meet .ensures)) (ap (λ x. x .origin) (m .meet2 .ensures)) join
     ∙ simp (left-at l, right-at r)
 
