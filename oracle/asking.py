@@ -15,6 +15,10 @@ FAR = (
     -999999999999999999,
 )
 
+# Positions of joins handed in. The driver cannot be asked with the last of all, which is for questions that are refused.
+POSITIONS = (0, 1, 2, 7, 15, 255, 256, 65535, 2147483647)
+ANY_POSITIONS = (*POSITIONS, 999999999999999999)
+
 # One delta of each octant, and the axes and diagonals between them.
 DIRECTIONS = [
     (s * x, t * y) for x, y in ((7, 3), (3, 7)) for s, t in product((1, -1), repeat=2)
@@ -37,8 +41,8 @@ def placed(rng, delta, size):
 
 def one_changed(numbers, values):
     """The numbers, with each one in turn replaced by each of the values."""
-    for position, value in product(range(len(numbers)), values):
-        yield [*numbers[:position], value, *numbers[position + 1 :]]
+    for place, value in product(range(len(numbers)), values):
+        yield [*numbers[:place], value, *numbers[place + 1 :]]
 
 
 def doubled_at(points, place):

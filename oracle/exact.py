@@ -1,4 +1,4 @@
-"""The questions answered from document 01, over exact numbers, with its limits and refusals, and K4 and K6 of document 02.
+"""The questions answered from document 01, over exact numbers, with its limits and refusals, and K4, K6 and K9 of document 02.
 
 The rules stand in `plane.py`, `strokes.py`, `joins.py`, `segments.py`, `walks.py` and
 `route_files.py`; here is what each kind of question asks for. Import `answer`, or run it as
@@ -24,7 +24,10 @@ LISTED = "pt"
 
 
 class Refused(Exception):
-    """Carries a number of document 01's table, or 12."""
+    """Carries a number of document 01's table, or 12; with 5 also the position of the join."""
+
+    def __str__(self):
+        return words(*self.args)
 
 
 def refuse(number, when):
@@ -131,12 +134,18 @@ def thick_points(*numbers):
 
 
 def refuse_corners(*found):
-    refuse(5, any(beyond(CORNER_LIMIT, flat(join.corners())) for join in found))
+    """Names the first join that has a corner beyond the limit."""
+    for join in found:
+        if beyond(CORNER_LIMIT, flat(join.corners())):
+            raise Refused(5, join.position)
 
 
 def join_words(join):
     refuse_corners(join)
-    return words(join.kind, *flat(join.corners()), *join.origins)
+    return words(join.kind, *flat(join.corners()), *join.origins, join.position)
+
+
+# A join asked for alone counts its own points as the list.
 
 
 def start_join(*numbers):
@@ -146,20 +155,21 @@ def start_join(*numbers):
 
 def end_join(*numbers):
     (a, b), width, offset = stroke(*numbers)
-    return join_words(joins.end(a, b, width, offset))
+    return join_words(joins.end(a, b, width, offset)._replace(position=1))
 
 
 def join(*numbers):
     *coordinates, width, offset = numbers
     refuse_stroke(width, coordinates)
     a, b, c = paired(coordinates)
-    return join_words(joins.between(a, b, c, width, strokes.OFFSETS[offset]))
+    return join_words(joins.between(a, b, c, width, strokes.OFFSETS[offset])._replace(position=1))
 
 
-def handed_in(kind, *numbers):
-    """A join from the number of its kind and its corners."""
+def handed_in(kind, position, *numbers):
+    """A join from the number of its kind, its position and its corners."""
     a, b, c, d = paired(numbers)
-    return joins.Join(joins.KINDS[kind], joins.Corners(a, b), joins.Corners(c, d))
+    corners = joins.Corners(a, b), joins.Corners(c, d)
+    return joins.Join(joins.KINDS[kind], *corners, position=position)
 
 
 def line_words(lines):
@@ -185,7 +195,7 @@ def lines_of_join(*numbers):
 
 
 def segment(*numbers):
-    found = segments.Segment(handed_in(*numbers[:9]), handed_in(*numbers[9:]))
+    found = segments.Segment(handed_in(*numbers[:10]), handed_in(*numbers[10:]))
     refuse_corners(*found)
     return found
 
@@ -308,16 +318,23 @@ def runs_of_route(coordinates, width, closed):
     return [(row, *run) for row, _, runs in rows for run in runs]
 
 
-# All fields of an answer: a refusal has 0 for every other one, and a state handed in stays as it was.
+# All fields of an answer: a refusal has 0 for every other one, save 5's bend, and a state handed in stays as it was.
 
 
-def number_of(asked, *numbers):
-    """The refusal's number, or 0."""
+def refusal_of(asked, *numbers):
+    """The refusal's number, or 0; and its bend, the position that comes with 5, else 0."""
     try:
         asked(*numbers)
     except Refused as refusal:
-        return refusal.args[0]
-    return 0
+        return (*refusal.args, 0)[:2]
+    return 0, 0
+
+
+def number_of(asked, *numbers):
+    """The same of what is never refused with 5."""
+    number, bend = refusal_of(asked, *numbers)
+    assert bend == 0
+    return number
 
 
 def starts(width, offset, row, count, *coordinates):
@@ -342,11 +359,11 @@ def starts(width, offset, row, count, *coordinates):
 
 def next_of_gathered(width, offset, row, count, *coordinates):
     """The polyline's `next` of a walk at place 1 that has gathered 5 to 9; past the end it is handed out."""
-    number = number_of(spans_of_row, width, offset, row, count, *coordinates)
+    number, bend = refusal_of(spans_of_row, width, offset, row, count, *coordinates)
     if number:
-        return words(number, "false", 0, 0, 0, "|", 1, width, row, 5, 9)
+        return words(number, bend, "false", 0, 0, 0, "|", 1, width, row, 5, 9)
     assert count <= 4
-    return words(0, "true", row, 5, 9, "|", 1, width, row, 0, 0)
+    return words(0, 0, "true", row, 5, 9, "|", 1, width, row, 0, 0)
 
 
 def taken_span(row, start, end):
@@ -361,10 +378,19 @@ def taken_span(row, start, end):
 
 
 def each_line_of_join(*numbers):
-    """Filler line, start cap and end cap, each refused by itself."""
+    """Filler line, start cap and end cap, each refused by itself; the fields of whether it is degenerate."""
     found = handed_in(*numbers)
-    number = number_of(refuse_corners, found)
-    return " | ".join([f"refused {number}"] * 3 if number else filled_words(found))
+    number, bend = refusal_of(refuse_corners, found)
+    filled = [f"refused {words(number, bend)}"] * 3 if number else filled_words(found)
+    degenerate = not number and joins.is_degenerate(found)
+    return " | ".join([*filled, words(number, bend, truth(degenerate))])
+
+
+def bends_of_segment(*numbers):
+    """Refusal and bend of each entry of a segment; the span's, the last, looks at the row too."""
+    *corners, _row = numbers
+    of_corners, of_span = refusal_of(segment, *corners), refusal_of(span_of_segment, *numbers)
+    return " | ".join([words(*of_corners)] * 5 + [words(*of_span)])
 
 
 def fields_of_file(k, *data):
@@ -383,7 +409,8 @@ def fields_of_file(k, *data):
 
 
 def fields_of_rows(width, _offset, row, count, *coordinates):
-    """Whether the route has rows, the first and the last; its runs on a row in a list of six numbers, which were -7; open, closed."""
+    """Whether the route has rows, the first and the last; its runs on a row in a list of six numbers, which were -7; what it is
+    refused with as a whole; each open and closed."""
 
     def drawn(closed):
         points = route(width, count, coordinates, closed)
@@ -392,9 +419,9 @@ def fields_of_rows(width, _offset, row, count, *coordinates):
         return found
 
     def range_words(closed):
-        number = number_of(drawn, closed)
+        number, bend = refusal_of(drawn, closed)
         rows = [] if number else walks.rows_of(drawn(closed))
-        return words(number, truth(rows), *((rows[0], rows[-1]) if rows else (0, 0)))
+        return words(number, bend, truth(rows), *((rows[0], rows[-1]) if rows else (0, 0)))
 
     def listed_runs(closed):
         found = drawn(closed)
@@ -407,12 +434,16 @@ def fields_of_rows(width, _offset, row, count, *coordinates):
         return runs
 
     def row_words(closed):
-        number = number_of(listed_runs, closed)
+        number, bend = refusal_of(listed_runs, closed)
         runs = [] if number else listed_runs(closed)
         total = sum(end - start for start, end in runs)
-        return words(number, len(runs), total, *flat(runs), *[-7] * (6 - 2 * len(runs)))
+        return words(number, bend, len(runs), total, *flat(runs), *[-7] * (6 - 2 * len(runs)))
 
-    return " | ".join([range_words(False), range_words(True), row_words(False), row_words(True)])
+    def whole_words(closed):
+        return words(*refusal_of(runs_of_route, coordinates, width, closed))
+
+    parts = (range_words, row_words, whole_words)
+    return " | ".join(part(closed) for part in parts for closed in (False, True))
 
 
 KINDS = {
@@ -442,6 +473,7 @@ KINDS = {
     "v": next_of_gathered,
     "y": taken_span,
     "g": each_line_of_join,
+    "b": bends_of_segment,
     "h": fields_of_file,
     "w": fields_of_rows,
 }

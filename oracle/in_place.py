@@ -36,8 +36,8 @@ def route(segments, row):
     for place, segment in enumerate(segments, 1):
         span = segment.span(row)
         lit.update(range(*span))
-        origins = [letters for join in segment for letters in join.origins]
-        yield f"{place} {numbers(*segment.right_edge(), *segment.left_edge(), span, origins)}"
+        of_joins = [(*join.origins, join.position) for join in segment]
+        yield f"{place} {numbers(*segment.right_edge(), *segment.left_edge(), span, *of_joins)}"
     for _ in range(2):
         yield f"{len(segments)} end"
     yield listing(lit)

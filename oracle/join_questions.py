@@ -4,12 +4,12 @@
 """
 
 import random
-from itertools import product
+from itertools import cycle, product
 
 import exact
 import joins
 import smallest_joins
-from asking import DIRECTIONS, FAR, listed, one_changed, placed, point_within, scaled
+from asking import ANY_POSITIONS, DIRECTIONS, FAR, POSITIONS, listed, one_changed, placed, point_within, scaled
 from plane import plus
 from strokes import OFFSETS as NAMED_OFFSETS
 
@@ -25,10 +25,10 @@ JOIN_KINDS = range(len(joins.KINDS))
 
 # P10 of document 01, and the miter of a right angle by hand.
 WORKED = [
-    ("j 0 0 216 0 216 216 3 0", "Miter 217 -1 215 1 217 -1 215 1 EE EE"),
-    ("a 0 0 3 0 3 0", "Start 0 -1 0 1 0 -1 0 1 - -"),
-    ("z 0 0 3 0 3 0", "End 3 -1 3 1 3 -1 3 1 - -"),
-    ("f 7 3 -1 3 1 3 -1 3 1", "none | 1 3 -1 3 1 | 1 3 -1 3 1 | false"),
+    ("j 0 0 216 0 216 216 3 0", "Miter 217 -1 215 1 217 -1 215 1 EE EE 1"),
+    ("a 0 0 3 0 3 0", "Start 0 -1 0 1 0 -1 0 1 - - 0"),
+    ("z 0 0 3 0 3 0", "End 3 -1 3 1 3 -1 3 1 - - 1"),
+    ("f 7 1 3 -1 3 1 3 -1 3 1", "none | 1 3 -1 3 1 | 1 3 -1 3 1 | false"),
 ]
 
 
@@ -136,7 +136,7 @@ def sides_that_differ(rng):
             yield ask("j", points, width, offset)
 
 
-def positions():
+def limits():
     """Each number alone at its limit, one beyond it, and far beyond; two refusals at once."""
     values = (LIMIT, -LIMIT, LIMIT + 1, -LIMIT - 1, *FAR)
     widths = (0, 64, 65, -1, *FAR)
@@ -150,25 +150,29 @@ def positions():
 
 
 def handed_in(rng):
-    """Joins of every kind with corners near and far, equal and different."""
+    """Joins of every kind with corners near and far, equal and different, at all positions."""
+    positions = cycle(POSITIONS)
     for kind, size in product(JOIN_KINDS, (2, 20, 700, CORNERS)):
         for _ in range(10):
-            yield exact.words("f", kind, *exact.flat(random_points(rng, 4, size)))
+            yield exact.words("f", kind, next(positions), *exact.flat(random_points(rng, 4, size)))
         p, q = random_points(rng, 2, size)
-        yield exact.words("f", kind, *p, *q, *p, *q)
-        yield exact.words("f", kind, *p, *p, *p, *p)
+        yield exact.words("f", kind, next(positions), *p, *q, *p, *q)
+        yield exact.words("f", kind, next(positions), *p, *p, *p, *p)
 
 
 def corners_at_the_limit():
+    """Each number of the corners at the limit and beyond; every kind is refused at all positions."""
+    accepted, refused = cycle(POSITIONS), cycle(ANY_POSITIONS)
     values = (CORNERS, -CORNERS, CORNERS + 1, -CORNERS - 1, *FAR)
     corners = (3, -5, 17, 11, 9, 40, -8, 6)
     for kind in JOIN_KINDS:
         for numbers in one_changed(corners, values if kind < 2 else values[:4]):
-            yield exact.words("f", kind, *numbers)
+            position = next(refused if exact.beyond(CORNERS, numbers) else accepted)
+            yield exact.words("f", kind, position, *numbers)
     # The filler line through the whole box, both ways.
     for kind, (s, t) in product(range(1, 5), product((1, -1), repeat=2)):
         first, second = (s * CORNERS, t * CORNERS), (-s * 4094, -t * 4094)
-        yield exact.words("f", kind, *first, *first, *second, *second)
+        yield exact.words("f", kind, next(accepted), *first, *first, *second, *second)
 
 
 def random_join(rng, size):
@@ -205,7 +209,7 @@ def questions():
         "doubled points": doubled_points(rng),
         "miters at the limit": miters_at_the_limit(rng),
         "sides that differ": sides_that_differ(rng),
-        "one position at or past the limit": positions(),
+        "one number at or past the limit": limits(),
         "joins handed in": handed_in(rng),
         "corners at or past the limit": corners_at_the_limit(),
     }
@@ -222,5 +226,5 @@ def random_question(rng):
         return random_join(rng, size)
     if kind == "f":
         corners = random_points(rng, 4, 8 * size)
-        return exact.words("f", rng.choice(JOIN_KINDS), *exact.flat(corners))
+        return exact.words("f", rng.choice(JOIN_KINDS), rng.choice(POSITIONS), *exact.flat(corners))
     return ask(kind, random_points(rng, 2, size), any_width(rng), rng.choice(OFFSETS))

@@ -1,4 +1,4 @@
-"""Joins of thick lines over exact numbers, from document 01, module 4, with K4 of document 02."""
+"""Joins of thick lines over exact numbers, from document 01, module 4, with K4 and K9 of document 02."""
 
 from typing import NamedTuple
 
@@ -33,10 +33,13 @@ class Origins(NamedTuple):
 
 
 class Join(NamedTuple):
+    """The position is the place of its middle point in the list; whoever has the list sets it."""
+
     kind: str
     first_edge_end: Corners
     second_edge_start: Corners
     origins: Origins = Origins()
+    position: int = 0
 
     def corners(self):
         return *self.first_edge_end, *self.second_edge_start

@@ -4,11 +4,11 @@
 """
 
 import random
-from itertools import product
+from itertools import cycle, product
 
 import exact
 import joins
-from asking import FAR, listed, one_changed, point_within, scaled
+from asking import ANY_POSITIONS, FAR, POSITIONS, listed, one_changed, point_within, scaled
 from segments import Segment
 from walks import closed_segments, open_segments
 
@@ -18,7 +18,7 @@ KINDS = "kqrmu"
 JOIN_KINDS = range(len(joins.KINDS))
 
 # By hand: a line of width 3 and its rows; spans that touch, that do not, and empty ones.
-FLAT = "6 0 -1 0 1 0 -1 0 1 7 3 -1 3 1 3 -1 3 1"
+FLAT = "6 0 0 -1 0 1 0 -1 0 1 7 1 3 -1 3 1 3 -1 3 1"
 WORKED = [
     (
         f"k {FLAT}",
@@ -41,8 +41,13 @@ def numbers_of(segment):
     return [
         number
         for join in segment
-        for number in (joins.KINDS.index(join.kind), *exact.flat(join.corners()))
+        for number in (joins.KINDS.index(join.kind), join.position, *exact.flat(join.corners()))
     ]
+
+
+def standing_at(segment, start, end):
+    """The segment with other positions of its joins."""
+    return Segment(segment.start._replace(position=start), segment.end._replace(position=end))
 
 
 def rows_of(segment):
@@ -91,13 +96,15 @@ def of_each_kind(rng):
 
 def skeletons(rng):
     """The start corners coincide: the right edge is drawn, and the left edge may differ."""
+    positions = cycle(POSITIONS)
     for segment in closed_segments([(-5, -3), (-1, -1), (3, -5)], 2, "Right"):
         yield from asked_of(rng, segment, 40)
     for kind, size in product(JOIN_KINDS, (3, 30, LIMIT)):
         p, *corners = (point_within(rng, size) for _ in range(7))
         start = joins.Join(joins.KINDS[kind], joins.Corners(p, p), joins.Corners(*corners[:2]))
         end = joins.Join("End", joins.Corners(*corners[2:4]), joins.Corners(*corners[4:]))
-        yield from asked_of(rng, Segment(start, end), 4)
+        segment = standing_at(Segment(start, end), next(positions), next(positions))
+        yield from asked_of(rng, segment, 4)
 
 
 def random_segment(rng, size):
@@ -113,16 +120,49 @@ def random_segment(rng, size):
 
 
 def handed_in(rng):
+    positions = cycle(POSITIONS)
     for size in (2, 5, 60, LIMIT):
         for _ in range(25):
-            yield from asked_of(rng, random_segment(rng, size), 3)
+            segment = standing_at(random_segment(rng, size), next(positions), next(positions))
+            yield from asked_of(rng, segment, 3)
 
 
-def segment_positions(rng):
+def far_at(join, place, value):
+    """The join with one number of its corners changed; with none where the place is None."""
+    if place is None:
+        return join
+    numbers = exact.flat(join.corners())
+    numbers[place] = value
+    return exact.handed_in(joins.KINDS.index(join.kind), join.position, *numbers)
+
+
+def which_is_far(rng):
+    """Each number of the corners in turn beyond the limit, of the start join, of the end join, of both; then of neither. The two
+    positions differ. Each is asked with a row inside and with one beyond: 5 comes before 6."""
+
+    def asked_with(positions, places):
+        segment = standing_at(random_segment(rng, 20), *positions)
+        value = rng.choice((LIMIT + 1, -LIMIT - 1, *FAR))
+        found = Segment(*(far_at(join, place, value) for join, place in zip(segment, places)))
+        yield ask("k", found)
+        yield ask("q", found)
+        yield ask("r", found, 0)
+        yield ask("r", found, rng.choice((LIMIT + 1, -LIMIT - 1)))
+
+    pairs = cycle(zip(ANY_POSITIONS, ANY_POSITIONS[3:] + ANY_POSITIONS[:3]))
+    for place in range(8):
+        for places in ((place, None), (None, place), (place, 7 - place)):
+            yield from asked_with(next(pairs), places)
+    for pair in zip(POSITIONS[1:], POSITIONS[4:] + POSITIONS[1:4]):
+        yield from asked_with(pair, (None, None))
+
+
+def segment_limits(rng):
     """Each corner alone beyond the limit; the row at its limit and beyond; both at once."""
-    base = numbers_of(random_segment(rng, 20))
+    base = numbers_of(standing_at(random_segment(rng, 20), 3, 4))
     for numbers in one_changed(base, (LIMIT + 1, -LIMIT - 1)):
-        if numbers[0] == base[0] and numbers[9] == base[9]:
+        # Kinds and positions stay.
+        if all(numbers[place] == base[place] for place in (0, 1, 10, 11)):
             yield exact.words("k", *numbers)
             yield exact.words("q", *numbers)
             yield exact.words("r", *numbers, LIMIT + 1)
@@ -146,7 +186,7 @@ def met_lines(rng):
             yield exact.words("m", 0, 0, dx, dy, row, 0, 0)
 
 
-def met_positions():
+def met_limits():
     base = (-9, -4, 12, 5, 1, 2, 6)
     values = (LIMIT, -LIMIT, LIMIT + 1, -LIMIT - 1, *FAR)
     for numbers in one_changed(base, values):
@@ -167,7 +207,7 @@ def all_small_spans():
         yield exact.words("u", 5, *span[:2], 5, *span[2:])
 
 
-def span_positions():
+def span_limits():
     values = (LIMIT, -LIMIT, LIMIT + 1, -LIMIT - 1, LIMIT + 2, *FAR)
     for base in ((4, 2, 6, 4, 5, 9), (4, 2, 6, 4, 9, 5), (4, 6, 2, 4, 5, 9)):
         for numbers in one_changed(base, values):
@@ -200,12 +240,13 @@ def questions():
         "joins of each kind": of_each_kind(rng),
         "skeletons": skeletons(rng),
         "joins handed in": handed_in(rng),
-        "segment, one past the limit": segment_positions(rng),
+        "segment, one past the limit": segment_limits(rng),
         "lines met": met_lines(rng),
-        "line met, at or past the limit": met_positions(),
+        "line met, at or past the limit": met_limits(),
         "spans within 3": all_small_spans(),
-        "spans at or past the limit": span_positions(),
+        "spans at or past the limit": span_limits(),
         "random spans": (random_spans(rng, size) for size in (9, 60, LIMIT) for _ in range(60)),
+        "which join is too far": which_is_far(random.Random(SEED)),
     }
     return listed(classes)
 
@@ -217,7 +258,7 @@ def random_question(rng):
     if kind == "u":
         return random_spans(rng, size)
     if rng.random() < 0.5:
-        segment = random_segment(rng, size)
+        segment = standing_at(random_segment(rng, size), *rng.choices(POSITIONS, k=2))
     else:
         points = [point_within(rng, min(size, 511)) for _ in range(4)]
         walk = rng.choice((open_segments, closed_segments))

@@ -21,14 +21,14 @@ OFFSETS = range(3)
 WIDTHS = (0, 1, 2, 3, 5, 16, 64)
 
 # By hand: a line of width 3; P10 of document 01; a W of width 1 and its rows.
-FLAT_START, FLAT_END = "Start 0 -1 0 1 0 -1 0 1 - -", "End 3 -1 3 1 3 -1 3 1 - -"
+FLAT_START, FLAT_END = "Start 0 -1 0 1 0 -1 0 1 - - 0", "End 3 -1 3 1 3 -1 3 1 - - 1"
 WORKED = [
     ("O 3 0 0 4 0 0 3 0", f"{FLAT_START} / {FLAT_END} | end"),
     ("N 3 0 0 4 0 0 3 0", f"{FLAT_START} / {FLAT_END} | end"),
     (
         "O 3 0 0 6 0 0 216 0 216 216",
-        f"{FLAT_START} / Miter 217 -1 215 1 217 -1 215 1 EE EE | "
-        "Miter 217 -1 215 1 217 -1 215 1 EE EE / End 217 216 215 216 217 216 215 216 - - | end",
+        f"{FLAT_START} / Miter 217 -1 215 1 217 -1 215 1 EE EE 1 | "
+        "Miter 217 -1 215 1 217 -1 215 1 EE EE 1 / End 217 216 215 216 217 216 215 216 - - 2 | end",
     ),
     ("O 3 0 0 0", "end"),
     ("O 3 0 0 2 5 5", "end"),

@@ -1,4 +1,4 @@
-"""Walks, merged spans and rows of a route over exact numbers: 01's module 6 and "The board", and K6 of 02.
+"""Walks, merged spans and rows of a route over exact numbers: 01's module 6 and "The board", and K6 and K9 of 02.
 
 A walk is the list of its segments, each made from the points around its own place.
 """
@@ -17,6 +17,11 @@ def is_doubled(points, closed):
     return any(a == b for a, b in zip(points, following))
 
 
+def in_their_places(found):
+    """The joins at all points of a list, in its order, each with the position of its point."""
+    return [join._replace(position=place) for place, join in enumerate(found)]
+
+
 def open_segments(points, width):
     """n points have n - 1 segments: a start, the bends, an end; no offset."""
     if len(points) < 2:
@@ -24,7 +29,8 @@ def open_segments(points, width):
     bends = [joins.between(*three, width, "None") for three in zip(points, points[1:], points[2:])]
     start = joins.start(points[0], points[1], width, "None")
     end = joins.end(points[-2], points[-1], width, "None")
-    return [Segment(*pair) for pair in zip([start, *bends], [*bends, end])]
+    found = in_their_places([start, *bends, end])
+    return [Segment(*pair) for pair in zip(found, found[1:])]
 
 
 def closed_segments(points, width, offset="None"):
@@ -35,7 +41,8 @@ def closed_segments(points, width, offset="None"):
     bends = [joins.between(*three, width, offset) for three in zip(around, points, around[2:])]
     if len(points) == 2:
         bends[0] = joins.start(*points, width, offset)
-    return [Segment(*pair) for pair in zip(bends, bends[1:] + bends[:1])]
+    found = in_their_places(bends)
+    return [Segment(*pair) for pair in zip(found, found[1:] + found[:1])]
 
 
 def span_on(segment, row):

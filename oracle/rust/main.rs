@@ -100,17 +100,16 @@ fn answer_kind(kind: &str, numbers: &[i32]) -> String {
         ("t", &[ax, ay, bx, by, width]) => thick_points(&line_of(ax, ay, bx, by), width),
         ("a", &[ax, ay, bx, by, width, offset]) => {
             let (a, b) = (Point::new(ax, ay), Point::new(bx, by));
-            uncrossed_words(&LineJoin::start(a, b, width as u32, stroke_offset(offset)))
+            uncrossed_words(&LineJoin::start(a, b, width as u32, stroke_offset(offset)), 0)
         }
         ("z", &[ax, ay, bx, by, width, offset]) => {
             let (a, b) = (Point::new(ax, ay), Point::new(bx, by));
-            uncrossed_words(&LineJoin::end(a, b, width as u32, stroke_offset(offset)))
+            uncrossed_words(&LineJoin::end(a, b, width as u32, stroke_offset(offset)), 1)
         }
         ("j", &[ax, ay, bx, by, cx, cy, width, offset]) => {
             let bend @ [a, b, c] = [Point::new(ax, ay), Point::new(bx, by), Point::new(cx, cy)];
             let offset = stroke_offset(offset);
-            let join = LineJoin::from_points(a, b, c, width as u32, offset);
-            format!("{} {}", join_words(&join), origins::words(&join.kind, bend, width, offset))
+            bend_words(&LineJoin::from_points(a, b, c, width as u32, offset), bend, width, offset, 1)
         }
         ("f", numbers) => lines_of_join(&join(numbers)),
         ("k", numbers) => parts_of_segment(&segment(numbers)),
@@ -231,9 +230,21 @@ fn counted(items: impl ExactSizeIterator<Item = String>) -> String {
         .join(" ")
 }
 
-/// A join at the start or at the end of a route.
-fn uncrossed_words(join: &LineJoin) -> String {
-    format!("{} - -", join_words(join))
+/// A join at the start or at the end of a line, and its position.
+fn uncrossed_words(join: &LineJoin, position: usize) -> String {
+    format!("{} - - {position}", join_words(join))
+}
+
+/// A join, the origins of its corners, and its position.
+fn bend_words(
+    join: &LineJoin,
+    bend: [Point; 3],
+    width: i32,
+    offset: StrokeOffset,
+    position: usize,
+) -> String {
+    let origins = origins::words(&join.kind, bend, width, offset);
+    format!("{} {origins} {position}", join_words(join))
 }
 
 fn join_words(join: &LineJoin) -> String {
@@ -247,9 +258,9 @@ fn join_words(join: &LineJoin) -> String {
     format!("{kind} {} {}", corners(first), corners(second))
 }
 
-/// A join from the number of its kind and its corners.
+/// A join from the number of its kind and its corners; its position, between them, is passed over.
 fn join(numbers: &[i32]) -> LineJoin {
-    let &[kind, ax, ay, bx, by, cx, cy, dx, dy] = numbers else {
+    let &[kind, _, ax, ay, bx, by, cx, cy, dx, dy] = numbers else {
         panic!("no such join");
     };
     let (left, right) = (LineSide::Left, LineSide::Right);
@@ -295,7 +306,7 @@ fn span_words(scanline: &Scanline) -> String {
 
 /// The segment between two joins.
 fn segment(joins: &[i32]) -> ThickSegment {
-    ThickSegment::new(join(&joins[..9]), join(&joins[9..]))
+    ThickSegment::new(join(&joins[..10]), join(&joins[10..]))
 }
 
 /// The perimeter has no function of its own in the printed file: here are the lines that
@@ -346,7 +357,7 @@ fn points(coordinates: &[i32]) -> Vec<Point> {
 }
 
 /// Of each segment its two joins, then the end. A segment begins at the point of its place; the point
-/// after the last is the first.
+/// after the last is the first. The positions are counted here, the crate has none.
 fn walk_words(
     segments: impl IntoIterator<Item = ThickSegment>,
     points: &[Point],
@@ -356,7 +367,7 @@ fn walk_words(
     let count = points.len();
     let words = |join: &LineJoin, place: usize| {
         let bend = [place + count - 1, place, place + 1].map(|place| points[place % count]);
-        format!("{} {}", join_words(join), origins::words(&join.kind, bend, width, offset))
+        bend_words(join, bend, width, offset, place % count)
     };
     let parts = segments.into_iter().enumerate().map(|(place, segment)| {
         let [start, end] = thick_segment::door::joins(&segment);

@@ -5,7 +5,7 @@ use crate::{
     drawn_rows,
     geometry::Point,
     primitives::common::{
-        thick_segment, ClosedThickSegmentIter, StrokeOffset, ThickSegment, ThickSegmentIter,
+        thick_segment, ClosedThickSegmentIter, LineJoin, StrokeOffset, ThickSegment, ThickSegmentIter,
     },
 };
 use std::ops::Range;
@@ -33,7 +33,7 @@ pub fn rows(file: &[u8]) -> Vec<String> {
                 lines.extend(runs.iter().map(words));
                 total += runs.into_iter().flat_map(|(_, run)| run).count();
             }
-            Err(number) => lines.push(format!("{k} refused {number}")),
+            Err(refusal) => lines.push(format!("{k} refused {refusal}")),
         }
     }
     lines.push(format!("total {total}"));
@@ -78,16 +78,18 @@ fn numbers(bytes: &[u8]) -> Vec<u16> {
     bytes.chunks(2).map(|pair| u16::from_le_bytes([pair[0], pair[1]])).collect()
 }
 
-/// The runs of all rows, or a refusal.
-fn lit(route: &Route) -> Result<Vec<Lit>, u8> {
+/// The runs of all rows, or a refusal: its number, and behind 5 the position of the join.
+fn lit(route: &Route) -> Result<Vec<Lit>, String> {
     let Route { points, width, closed } = route;
-    let refuse = |number, when| if when { Err(number) } else { Ok(()) };
+    let refuse = |number: u8, when| if when { Err(number.to_string()) } else { Ok(()) };
     refuse(2, points.len() > 256 || (*closed && points.len() == 1))?;
     refuse(3, *width > 64)?;
     refuse(4, points.iter().any(|point| beyond(511, point)))?;
     refuse(12, is_doubled(points, *closed))?;
     let segments = segments(points, (*width).into(), *closed);
-    refuse(5, segments.iter().any(is_far))?;
+    if let Some(position) = first_far(&segments, points.len()) {
+        return Err(format!("5 {position}"));
+    }
 
     let drawn = || segments.iter().map(drawn_rows);
     let first = drawn().map(|(first, _)| first).min().unwrap_or(0);
@@ -122,12 +124,20 @@ fn segments(points: &[Point], width: u32, closed: bool) -> Vec<ThickSegment> {
     }
 }
 
-fn is_far(segment: &ThickSegment) -> bool {
-    thick_segment::door::joins(segment).iter().any(|join| {
-        [join.first_edge_end, join.second_edge_start]
-            .iter()
-            .any(|corners| beyond(4095, &corners.left) || beyond(4095, &corners.right))
+/// The position of the first join, in the order of the walk, that has a corner beyond 4,095. A segment
+/// goes from the point of its place to the next; the point after the last is the first.
+fn first_far(segments: &[ThickSegment], count: usize) -> Option<usize> {
+    segments.iter().enumerate().find_map(|(place, segment)| {
+        let [start, end] = thick_segment::door::joins(segment);
+        let positions = [(start, place), (end, (place + 1) % count)];
+        positions.iter().find(|(join, _)| is_far(join)).map(|(_, position)| *position)
     })
+}
+
+fn is_far(join: &LineJoin) -> bool {
+    [join.first_edge_end, join.second_edge_start]
+        .iter()
+        .any(|corners| beyond(4095, &corners.left) || beyond(4095, &corners.right))
 }
 
 /// The runs are ascending and apart; those that the span touches become one with it.

@@ -22,7 +22,7 @@ module _ (limits : Limits) (closed : Bool) (cs : List ℤ) (w : ℤ) (rows out�
       (lastOf (rowAnswer limits closed cs w) (length out₀) last (drop i rows) .total ≡ lastColumns limits closed cs w rows (length out₀))
       × (afterAll (rowTo limits closed cs w) out (drop i rows) ≡ rowsTo limits closed cs w rows out₀)
 
-  pub left-all : {last : Listing} → last ≡ noListing 0 → Left 0 last out₀
+  pub left-all : {last : Listing} → last ≡ noListing 0 0 → Left 0 last out₀
   unfolding lastColumns rowsTo
   left-all e = (rw e, refl)
 
@@ -46,13 +46,13 @@ module _ (limits : Limits) (closed : Bool) (cs : List ℤ) (w : ℤ) {m : ℕ} (
   none-listed : (rows out : List ℤ) (last : Listing) → last .total ≡ pos 0 → lastOf (rowAnswer limits closed cs w) (length out) last rows .total ≡ pos 0
   unfolding lastOf
   none-listed [] out last e = e
-  none-listed (y ∷ ys) out last e = none-listed ys out (rowAnswer limits closed cs w y (length out)) (sym (ap (λ r. r .total) (row-stopped limits closed cs w is some y out refl .0)))
+  none-listed (y ∷ ys) out last e = none-listed ys out (rowAnswer limits closed cs w y (length out)) (sym (ap (λ r. r .total) (row-stopped limits closed cs w is some refl y out refl .0)))
 
   none-written : (rows out : List ℤ) → afterAll (rowTo limits closed cs w) out rows ≡ out
   unfolding afterAll
   none-written [] out = refl
-  none-written (y ∷ ys) out = ap (λ o. afterAll (rowTo limits closed cs w) o ys) (sym (row-stopped limits closed cs w is some y out refl .1)) ∙ none-written ys out
+  none-written (y ∷ ys) out = ap (λ o. afterAll (rowTo limits closed cs w) o ys) (sym (row-stopped limits closed cs w is some refl y out refl .1)) ∙ none-written ys out
 
   pub nothing-drawn : (rows out : List ℤ) → (lastColumns limits closed cs w rows (length out) ≡ pos 0) × (rowsTo limits closed cs w rows out ≡ out)
   unfolding lastColumns rowsTo
-  nothing-drawn rows out = (none-listed rows out (noListing 0) refl, none-written rows out)
+  nothing-drawn rows out = (none-listed rows out (noListing 0 0) refl, none-written rows out)

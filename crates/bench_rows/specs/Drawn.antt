@@ -18,7 +18,7 @@ afterAll row out (y ∷ ys) = afterAll row (row y out) ys
 
 -- the number of the last row's columns
 unfoldable pub lastColumns : Limits → Bool → List ℤ → ℤ → List ℤ → ℕ → ℤ
-lastColumns limits closed cs w rows n = lastOf (rowAnswer limits closed cs w) n (noListing 0) rows .total
+lastColumns limits closed cs w rows n = lastOf (rowAnswer limits closed cs w) n (noListing 0 0) rows .total
 
 unfoldable pub rowsTo : Limits → Bool → List ℤ → ℤ → List ℤ → List ℤ → List ℤ
 rowsTo limits closed cs w rows out = afterAll (rowTo limits closed cs w) out rows

@@ -22,7 +22,7 @@ pub extern "C" fn knitbramble_rows_by_entry(
 ) -> i64
     ensures { λ r. ⌜ (r ≡ lastColumns panelLimits closed (now (coordinates .entry)) width (now (rows .entry)) (length (now (out .entry)))) × (now (out .exit) ≡ rowsTo panelLimits closed (now (coordinates .entry)) width (now (rows .entry)) (now (out .entry))) ⌝ }
 {
-    let mut last: Listing = refused(0);
+    let mut last: Listing = refused(0, 0);
     let mut i: usize = 0;
     while i < rows.len() {
         last = route::row(coordinates, width, closed, rows[i], &mut *out);
@@ -46,7 +46,7 @@ pub extern "C" fn knitbramble_rows_of_joins(
     if route.refusal != 0 {
         return 0;
     }
-    let mut last: Listing = refused(0);
+    let mut last: Listing = refused(0, 0);
     let mut i: usize = 0;
     while i < rows.len() {
         last = row_of(route.joins, rows[i], CORNER, &mut *out);

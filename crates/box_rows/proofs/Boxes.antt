@@ -35,7 +35,8 @@ use Rattle.route.specs.Joined.{joinsOf}
 use Rattle.route.specs.Rows.{noRows, ends, withAll}
 use Rattle.route.specs.Answers.{drawRefusal, rowsAnswer}
 use Rattle.route.proofs.Bounds.{Bounds, bounds, bounds-least}
-use Rattle.route.proofs.AllRows.{all-refusal, rows-bounds, rows-none-of, rows-refusal}
+use Rattle.route.proofs.AllRows.{all-refusal, all-bend, rows-bounds, rows-none-of, rows-refusal}
+use Rattle.route.proofs.Bends.{rows-bend}
 use Rattle.route.proofs.Kept.{segment-near, segments-all, segment-is, kept-joins}
 use Rattle.route.proofs.Refused.{draw-none}
 use Rattle.box_rows.specs.Words.{boxed, boxRange, OneLine, OneLined}
@@ -168,11 +169,11 @@ module _ (limits : Limits) (closed : Bool) (cs : List ℤ) (w : ℤ) (free : dra
 
 -- ---- so the rows of the drawn lines are those of the boxes
 
-same-range : {a b : RowRange} → a .refusal ≡ b .refusal → a .some ≡ b .some → Holds (ends a) (ends b) → Holds (ends b) (ends a) → a ≡ b
-same-range {a} {b} n some p q =
+same-range : {a b : RowRange} → a .refusal ≡ b .refusal → a .bend ≡ b .bend → a .some ≡ b .some → Holds (ends a) (ends b) → Holds (ends b) (ends a) → a ≡ b
+same-range {a} {b} n bend some p q =
     let first : a .first ≡ b .first = omega (linear, p .from, q .from) in
     let last : a .last ≡ b .last = omega (linear, p .to, q .to) in
-    rw (n, some, first, last)
+    rw (n, bend, some, first, last)
 
 module _ (limits : Limits) (closed : Bool) (cs : List ℤ) (w : ℤ) (free : drawRefusal limits closed cs w ≡ 0) (lined : OneLined closed cs w) where
   abbrev rows : RowRange
@@ -187,14 +188,16 @@ module _ (limits : Limits) (closed : Bool) (cs : List ℤ) (w : ℤ) (free : dra
       let b = rows-bounds limits closed cs w free h in
       let o = box-bounds closed cs w h in
       let several = several-by (pointCount cs) closed (draw-none limits closed cs w .0 free .0 .several) h in
-      let none = all-refusal (noRows 0) (listFrom (boxed closed cs w) 0 (segmentCount closed cs)) refl in
-      same-range (rows-refusal limits closed cs w ∙ free ∙ sym none) (b .some ∙ sym (o .some))
+      let all = listFrom (boxed closed cs w) 0 (segmentCount closed cs) in
+      let accepted = rows-refusal limits closed cs w ∙ free in
+      let unnamed = rows-bend limits closed cs w .other (λ five. omega (arith, accepted, five)) in
+      same-range (accepted ∙ sym (all-refusal (noRows 0 0) all refl)) (unnamed ∙ sym (all-bend (noRows 0 0) all refl)) (b .some ∙ sym (o .some))
       (bounds-least (boxed closed cs w) o (λ i g. holds-on (b .holds i g) (box-drawn (segmentAt closed cs w i) (lined .each i g))))
       (bounds-least (λ i. drawnRows (segmentAt closed cs w i)) b (drawn-in closed cs w several lined (o .holds)))
 
   no-rows : segmentCount closed cs ≡ 0 → rows ≡ old
   unfolding boxRange withAll listFrom
-  no-rows none = rows-none-of limits closed cs w free none ∙ sym (ap (λ m. withAll (noRows 0) (listFrom (boxed closed cs w) 0 m)) none)
+  no-rows none = rows-none-of limits closed cs w free none ∙ sym (ap (λ m. withAll (noRows 0 0) (listFrom (boxed closed cs w) 0 m)) none)
 
   -- where the edges of every skeleton lie on one line, the rows are those that 01 had before
   pub rows-boxes : rows ≡ old

@@ -18,6 +18,7 @@ use Rattle.shapes.specs.Strokes.{Thin}
 use Rattle.shapes.proofs.Laws.{near-more, line-of-near, same-exactly}
 use Rattle.line_join.specs.declared.Join.{Join}
 use Rattle.line_join.specs.Join.{startOf, endOf, joinOf}
+use Rattle.line_join.specs.Standing.{standingAt}
 use Rattle.skeletons.proofs.Corners.{Apart}
 use Rattle.skeletons.proofs.Skeletons.{start-apart, end-apart, bend-apart}
 use Rattle.thick_segment.specs.Segments.{isSkeleton}
@@ -32,11 +33,12 @@ use Rattle.box_rows.specs.Words.{boxRange, OneLine}
 use Rattle.box_rows.proofs.Boxes.{rows-boxes}
 use Rattle.box_rows.proofs.Thinnest.{Thinnest, Merged, start-merged, end-merged, bend-merged}
 
--- what holds of the joins of points within the limit
+-- what holds of the joins of points within the limit, wherever they stand
 record OfJoins (w : ℤ) (P : Join → Type 0) : Type 0 where
   at-start : {a b : Point} → Near lineLimit a → Near lineLimit b → P (startOf a b w None)
   at-end : {a b : Point} → Near lineLimit a → Near lineLimit b → P (endOf a b w None)
   at-bend : {a b c : Point} → Near lineLimit a → Near lineLimit b → Near lineLimit c → P (joinOf a b c w None)
+  anywhere : (i : ℕ) (j : Join) → P j → P (standingAt i j)
 
 -- holds of all joins of a route
 module _ {k : ℕ} {cs : List ℤ} {w : ℤ} (near : AllWithin k cs) (fits : k ≤ lineLimit) {P : Join → Type 0} (of : OfJoins w P) where
@@ -49,13 +51,20 @@ module _ {k : ℕ} {cs : List ℤ} {w : ℤ} (near : AllWithin k cs) (fits : k �
 
   join-by : (closed : Bool) (i : ℕ) → P (joinOn closed cs w None i)
   unfolding joinOn openJoin closedJoin
-  join-by true i = either P (eqb (pointCount cs + i) 2) (λ _. of .at-start (near-at 0) (near-at 1)) (λ _. bend-by (placeBefore (pointCount cs) i) i (placeAfter (pointCount cs) i))
+  join-by true i = of .anywhere i (closedJoin cs w None i) (either P (eqb (pointCount cs + i) 2) (λ _. of .at-start (near-at 0) (near-at 1)) (λ _. bend-by (placeBefore (pointCount cs) i) i (placeAfter (pointCount cs) i)))
   join-by false i =
-      either P (eqb i 0) (λ _. of .at-start (near-at 0) (near-at 1))
-      (λ _. either P (eqb (i + 1) (pointCount cs)) (λ _. of .at-end (near-at (i - 1)) (near-at i)) (λ _. bend-by (i - 1) i (i + 1)))
+      of .anywhere i (openJoin cs w i)
+      (either P (eqb i 0) (λ _. of .at-start (near-at 0) (near-at 1))
+      (λ _. either P (eqb (i + 1) (pointCount cs)) (λ _. of .at-end (near-at (i - 1)) (near-at i)) (λ _. bend-by (i - 1) i (i + 1))))
 
 merged-of : {w : ℤ} → Thinnest w → OfJoins w Merged
-merged-of thin = record { at-start = start-merged thin; at-end = end-merged thin; at-bend = bend-merged thin }
+merged-of thin =
+    record {
+      at-start = start-merged thin;
+      at-end = end-merged thin;
+      at-bend = bend-merged thin;
+      anywhere = λ i j m. record { ending-one = m .ending-one; starting-one = m .starting-one };
+    }
 
 apart-of : {w : ℕ} → 2 ≤ w → w ≤ widthLimit → OfJoins (pos w) Apart
 apart-of two most =
@@ -63,6 +72,7 @@ apart-of two most =
       at-start = λ a b. start-apart two most (line-of-near a b);
       at-end = λ a b. end-apart two most (line-of-near a b);
       at-bend = λ a b c. bend-apart two most (line-of-near a b) (line-of-near b c);
+      anywhere = λ i j apart. apart;
     }
 
 module _ (closed : Bool) {k : ℕ} {cs : List ℤ} (near : AllWithin k cs) (fits : k ≤ lineLimit) where

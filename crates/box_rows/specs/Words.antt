@@ -19,7 +19,7 @@ boxed closed cs w i = boxRows (boundingBox (segmentAt closed cs w i))
 
 -- "from the least to the greatest row in the union of its segments' `edges_bounding_box`"
 unfoldable pub boxRange : Bool → List ℤ → ℤ → RowRange
-boxRange closed cs w = withAll (noRows 0) (listFrom (boxed closed cs w) 0 (segmentCount closed cs))
+boxRange closed cs w = withAll (noRows 0 0) (listFrom (boxed closed cs w) 0 (segmentCount closed cs))
 
 -- both edges lie on one line: the two corners at which they start are one, and so are those at which they end
 pub record OneLine (s : Segment) : Type 0 where

@@ -11,12 +11,15 @@ use Rattle.whole.proofs.Tests.{Chosen, chosen, eqb-iff}
 use Rattle.shapes.specs.declared.limits.Limits.{Limits}
 use Rattle.shapes.specs.declared.Offset.{Offset}
 use Rattle.shapes.specs.declared.Offset.the-variants.{None}
+use Rattle.line_join.specs.Words.{BendTold}
 use Rattle.thick_segment.specs.Segments.{SegmentNear}
+use Rattle.thick_segment.specs.Words.{joinsIn}
+use Rattle.coordinates.specs.Points.{pointCount, placeAfter}
 use Rattle.coordinates.specs.Refusal.{routeRefusal, Accepted}
 use Rattle.coordinates.proofs.Laws.{accepted-exactly}
-use Rattle.route_joins.specs.Joins.{closedSegment, closedCount}
+use Rattle.route_joins.specs.Joins.{endPlace, closedSegment, closedCount}
 use Rattle.route_joins.specs.Steps.{StepTold, SegmentBySegment}
-use Rattle.route_joins.proofs.Walks.{place-kept, route-told, route-in-turn, route-five, route-other, refusal-told}
+use Rattle.route_joins.proofs.Walks.{place-kept, route-told, route-in-turn, route-five, route-other, route-step-bend, route-step-positions, refusal-told}
 use Rattle.closed_thick_segment_iter.specs.declared.Walk.{Walk}
 use Rattle.closed_thick_segment_iter.specs.declared.Started.{Started}
 use Rattle.closed_thick_segment_iter.specs.Walks.{closedStart, closedStep, afterClosed}
@@ -45,6 +48,17 @@ module _ (limits : Limits) (cs : List ℤ) (walk : Walk) where
   pub step-other : {n : ℕ} → 0 < n → (n ≡ 5 → ⊥) → (closedStep limits cs walk .refusal ≡ n) ↔ (routeRefusal (limits .point) true cs (walk .width) ≡ n)
   unfolding closedStep
   step-other = route-other limits true cs (walk .width) (walk .offset) (walk .place)
+
+  -- with 5 comes the position of the first join of the segment that has such a corner
+  pub step-bend : let v = closedStep limits cs walk in
+      BendTold ((routeRefusal (limits .point) true cs (walk .width) ≡ 0) × (walk .place < closedCount cs)) (limits .corner) (joinsIn (closedSegment cs (walk .width) (walk .offset) (walk .place))) 2 (v .refusal) (v .bend)
+  unfolding closedStep
+  step-bend = route-step-bend limits true cs (walk .width) (walk .offset) (walk .place)
+
+  -- the joins that a step hands out have the segment's place and the next one for their positions; of the closing segment that is 0
+  pub step-positions : let v = closedStep limits cs walk in v .found ≡ 1 → (v .start .position ≡ walk .place) × (v .end .position ≡ placeAfter (pointCount cs) (walk .place))
+  unfolding closedStep endPlace
+  step-positions = route-step-positions limits true cs (walk .width) (walk .offset) (walk .place)
 
   -- what a step answers, wherever the walk stands and whatever list is handed to it
   pub step-told : StepTold (limits .corner) (routeRefusal (limits .point) true cs (walk .width)) (closedCount cs) (closedSegment cs (walk .width) (walk .offset)) (walk .place) (closedStep limits cs walk)

@@ -1,4 +1,4 @@
--- The segments of the printed closed iterator are those of the closed walk. Assumes nothing.
+-- The segments of the printed closed iterator are those of the closed walk but for positions. Assumes nothing.
 use mathlib.Core.Path.{_≡_, refl, sym, ap, _∙_}
 use mathlib.Core.Logic.{_≢_}
 use mathlib.Core.Bool.{true, false}
@@ -19,7 +19,8 @@ use Rattle.line_join.specs.Join.{startOf, joinOf}
 use Rattle.coordinates.specs.Points.{pointAt, pointCount, pointsOf, placeAfter, placeBefore, segmentsOf}
 use Rattle.coordinates.proofs.Lists.{points-in-turn, last-two}
 use Rattle.coordinates.proofs.Places.{after-inner, after-last}
-use Rattle.route_joins.specs.Joins.{bendAt, closedJoin, joinOn, endPlace, segmentOf, segmentCount, closedSegment, closedCount}
+use Rattle.route_joins.specs.Joins.{bendAt, closedJoin, joinOn, endPlace, segmentOf, segmentCount, bare, closedSegment, closedCount}
+use Rattle.route_joins.proofs.Bends.{closed-unplaced, bare-of}
 use Rattle.closed_thick_segment_iter.specs.Printed.{between, Known, Iterator, pastWindows, turned, answered, closedSegments}
 
 module _ (cs : List ℤ) (w : ℤ) (o : Offset) where
@@ -45,9 +46,9 @@ module _ (cs : List ℤ) (w : ℤ) (o : Offset) where
   round : (k : ℕ) → suc k ≡ n → placeAfter n k ≡ 0
   round k e = after-last n k (omega (arith, e))
 
-  segment-to : (k m : ℕ) → placeAfter n k ≡ m → closedSegment cs w o k ≡ between (at k) (at m)
+  segment-to : (k m : ℕ) → placeAfter n k ≡ m → bare (closedSegment cs w o k) ≡ between (at k) (at m)
   unfolding segmentOf joinOn endPlace
-  segment-to k m e = rw e
+  segment-to k m e = rw e (bare-of (at k) (at m) k m (closed-unplaced cs w o k) (closed-unplaced cs w o m))
 
   abbrev known : Known
   known = record { count = n; first = point 0; before = point (n - 2); last = point (n - 1); join = at 0 }
@@ -58,7 +59,7 @@ module _ (cs : List ℤ) (w : ℤ) (o : Offset) where
 
   -- it answers the segments from place k on, and then none, however many calls more are made
   abbrev Answers : List Point → ℕ → ℕ → Type 0
-  Answers ps k left = (more : ℕ) → answered w o known (iterator ps k) (suc left + more) ≡ listFrom (closedSegment cs w o) k (suc left)
+  Answers ps k left = (more : ℕ) → answered w o known (iterator ps k) (suc left + more) ≡ listFrom (λ i. bare (closedSegment cs w o i)) k (suc left)
 
   stopped : (it : Iterator) (calls : ℕ) → it .stop ≡ true → answered w o known it calls ≡ []
   unfolding answered
@@ -115,7 +116,7 @@ module _ (cs : List ℤ) (w : ℤ) (o : Offset) where
       let last : n - 1 ≡ 2 + m = omega (arith, e) in
       rw (ne-eqb (n + 0) 2 (λ z. omega (arith, z, e)), on 0 (omega (arith, e)), last)
 
-  by-count : (m more : ℕ) → m ≡ n → m ≢ 1 → closedSegments w o (listFrom point 0 m) (m + more) ≡ listFrom (closedSegment cs w o) 0 m
+  by-count : (m more : ℕ) → m ≡ n → m ≢ 1 → closedSegments w o (listFrom point 0 m) (m + more) ≡ listFrom (λ i. bare (closedSegment cs w o i)) 0 m
   unfolding closedSegments listFrom
   by-count zero more e one = refl
   by-count (suc zero) more e one = absurd (one refl)
@@ -125,7 +126,7 @@ module _ (cs : List ℤ) (w : ℤ) (o : Offset) where
       let q : n - 1 ≡ 2 + m = omega (arith, e) in
       rw (last-two point _ m 1, list-length point 3 m, sym (first-of-more m e)) (rw (p, q, sym e) at (from-place (suc m) 0 (omega (arith, e)) more))
 
-  -- from `new` on, `next` answers the walk's segments, and then none for ever
-  pub closed-equal : n ≢ 1 → (more : ℕ) → closedSegments w o (pointsOf cs) (closedCount cs + more) ≡ listFrom (closedSegment cs w o) 0 (closedCount cs)
+  -- from `new` on, `next` answers the walk's segments, which have positions besides, and then none for ever
+  pub closed-equal : n ≢ 1 → (more : ℕ) → closedSegments w o (pointsOf cs) (closedCount cs + more) ≡ listFrom (λ i. bare (closedSegment cs w o i)) 0 (closedCount cs)
   unfolding segmentCount segmentsOf
   closed-equal one more = rw (points-in-turn cs) (by-count n more refl one)

@@ -17,9 +17,9 @@ use Rattle.line_join.specs.Miter.{miterLimit, reaches}
 use Rattle.line_join.specs.Caps.{isCornersNear, isJoinNear, fillerOf, capOf, startCapsOf, endCapsOf}
 use Rattle.line_join.specs.Origins.{originOf}
 use Rattle.line_join.specs.Join.{meet, overlapping, bentAt, bentOf, startOf, joinOf}
-use Rattle.thick_segment.specs.Segments.{isSegmentNear, isSkeleton, edgesOf, least, most, boxOf, union, boundingBox, drawn}
+use Rattle.thick_segment.specs.Segments.{isSegmentNear, farBend, isSkeleton, edgesOf, least, most, boxOf, union, boundingBox, drawn}
 use Rattle.thick_segment.specs.Rows.{around, withLines, drawnRows}
-use Rattle.thick_segment.specs.Answers.{boxAnswer, drawnRowsAnswer}
+use Rattle.thick_segment.specs.Answers.{skeletonAnswer, boxAnswer, drawnRowsAnswer}
 use Rattle.coordinates.specs.Points.{pointAt, pointCount, placeAfter, placeBefore, segmentsOf}
 use Rattle.coordinates.specs.Neighbours.{isDoubled}
 use Rattle.coordinates.specs.Refusal.{isOdd, isMiscounted, areWithin, routeRefusal}
@@ -27,9 +27,9 @@ use Rattle.route_joins.specs.Joins.{bendAt, closedJoin, joinOn, endPlace, segme
 use Rattle.route_joins.specs.Steps.{stepValues, checked, stepAt, routeStep, placeFrom}
 use Rattle.closed_thick_segment_iter.specs.Walks.{closedStart, closedStep, afterClosed}
 use Rattle.corners.specs.Cases.{Walks, Holds, Every}
-use Rattle.corners.specs.Worked.{roundedBoth, halfBelow, evenWidth, oddWidth, turnedRound, atThreshold, diagonal, leftOnly, rightOnly, bevelLeft, bevelRight, degenerate, halfMiter, roundedBevel, nearMiter, shortTurn, oddFiller, skeleton, cutCorner, outAndBack, worked}
+use Rattle.corners.specs.Worked.{roundedBoth, halfBelow, evenWidth, oddWidth, turnedRound, atThreshold, diagonal, leftOnly, rightOnly, bevelLeft, bevelRight, degenerate, halfMiter, roundedBevel, nearMiter, shortTurn, oddFiller, skeleton, cutCorner, startTooFar, endTooFar, bothTooFar, outAndBack, worked}
 
 pub worked-hold : Every worked
-unfolding Every Holds worked roundedBoth halfBelow evenWidth oddWidth turnedRound atThreshold diagonal leftOnly rightOnly bevelLeft bevelRight degenerate halfMiter roundedBevel nearMiter shortTurn oddFiller skeleton cutCorner outAndBack boxAnswer boundingBox union boxOf most least drawnRowsAnswer drawnRows withLines around drawn edgesOf isSkeleton lesser greater Walks closedStart closedStep afterClosed routeStep stepAt checked stepValues placeFrom isSegmentNear segmentCount segmentOf segmentsOf endPlace joinOn closedJoin bendAt routeRefusal isDoubled someFrom areWithin isMiscounted isOdd pointAt pointCount placeAfter placeBefore startCapsAnswer endCapsAnswer capsValues startCapsOf endCapsOf capOf fillerOf midpoint joinValues madeOf joinAnswer pointsAnswer isJoinNear isCornersNear joinOf startOf bentOf bentAt overlapping meet originOf divisionsOf divisionOf foundOf crossingAnswer crossingValues areLinesNear reaches miterLimit crossingOf nearlyColinear drawnOf sideOf solutionOf cramerOf equationOf distanceOf isOnSide rounded quarterTurn determinant extentsAnswer extentsOf closed lasts seen parallelsOf parallels spare parallelsFrom yieldOf grown isDone parallelsStart planOf planAlong thickness aimed nextParallel turnOf bent increased decreased nextAll previousAll parametersAlong along directionOf strokeRefusal isThin isLineNear isNear isWithin samePoint plus minus dotProduct squaredLength delta
+unfolding Every Holds worked roundedBoth halfBelow evenWidth oddWidth turnedRound atThreshold diagonal leftOnly rightOnly bevelLeft bevelRight degenerate halfMiter roundedBevel nearMiter shortTurn oddFiller skeleton cutCorner startTooFar endTooFar bothTooFar outAndBack skeletonAnswer farBend boxAnswer boundingBox union boxOf most least drawnRowsAnswer drawnRows withLines around drawn edgesOf isSkeleton lesser greater Walks closedStart closedStep afterClosed routeStep stepAt checked stepValues placeFrom isSegmentNear segmentCount segmentOf segmentsOf endPlace joinOn closedJoin bendAt routeRefusal isDoubled someFrom areWithin isMiscounted isOdd pointAt pointCount placeAfter placeBefore startCapsAnswer endCapsAnswer capsValues startCapsOf endCapsOf capOf fillerOf midpoint joinValues madeOf joinAnswer pointsAnswer isJoinNear isCornersNear joinOf startOf bentOf bentAt overlapping meet originOf divisionsOf divisionOf foundOf crossingAnswer crossingValues areLinesNear reaches miterLimit crossingOf nearlyColinear drawnOf sideOf solutionOf cramerOf equationOf distanceOf isOnSide rounded quarterTurn determinant extentsAnswer extentsOf closed lasts seen parallelsOf parallels spare parallelsFrom yieldOf grown isDone parallelsStart planOf planAlong thickness aimed nextParallel turnOf bent increased decreased nextAll previousAll parametersAlong along directionOf strokeRefusal isThin isLineNear isNear isWithin samePoint plus minus dotProduct squaredLength delta
 worked-hold =
-    (refl, (refl, ((refl, refl), ((refl, refl), ((refl, refl), ((refl, refl), ((refl, refl), ((refl, refl), ((refl, refl), (refl, (refl, (refl, (refl, (refl, (refl, (refl, ((refl, refl), ((refl, refl), ((refl, refl), ((refl, (refl, (refl, refl))), tt))))))))))))))))))))
+    (refl, (refl, ((refl, refl), ((refl, refl), ((refl, refl), ((refl, refl), ((refl, refl), ((refl, refl), ((refl, refl), (refl, (refl, (refl, (refl, (refl, (refl, (refl, ((refl, refl), ((refl, refl), ((refl, refl), (refl, (refl, (refl, ((refl, (refl, (refl, refl))), tt)))))))))))))))))))))))

@@ -34,7 +34,7 @@ use Rattle.line_join.specs.Answers.{joinValues, capsValues, pointsAnswer, start
 use Rattle.thick_segment.specs.declared.Segment.{Segment}
 use Rattle.thick_segment.specs.declared.Rectangle.{Rectangle}
 use Rattle.thick_segment.specs.declared.Rows.{Rows}
-use Rattle.thick_segment.specs.Answers.{boxAnswer, drawnRowsAnswer}
+use Rattle.thick_segment.specs.Answers.{skeletonAnswer, boxAnswer, drawnRowsAnswer}
 use Rattle.coordinates.specs.Refusal.{routeRefusal}
 use Rattle.route_joins.specs.declared.Step.the-variants.{Drawn, End}
 use Rattle.route_joins.specs.Steps.{stepValues}
@@ -65,6 +65,8 @@ pub data Case : Type 0 where
   capped : Join → Caps → Caps → Case
   -- a segment, the box of its edges, and the rows of its drawn lines
   rowed : Segment → Rectangle → Rows → Case
+  -- a segment that is refused with 5, and the position that comes with it
+  tooFar : Segment → ℕ → Case
   -- the coordinates of a closed route and a width, and its segments
   closed : List ℤ → ℤ → List Segment → Case
   -- whether a route is closed, its coordinates and a width, and what these are refused with
@@ -98,7 +100,8 @@ Holds (sides l p left right) =
 Holds (stroked l w o ps e) = (parallelsOf l w o ≡ ps) × (extentsAnswer pointLimit l w o ≡ accepted e)
 Holds (capped j starting ending) = (startCapsAnswer cornerLimit j ≡ capsValues starting) × (endCapsAnswer cornerLimit j ≡ capsValues ending)
 Holds (rowed s box rows) =
-    (boxAnswer cornerLimit s ≡ record { refusal = 0; rectangle = box }) × (drawnRowsAnswer cornerLimit s ≡ record { refusal = 0; rows = rows })
+    (boxAnswer cornerLimit s ≡ record { refusal = 0; bend = 0; rectangle = box }) × (drawnRowsAnswer cornerLimit s ≡ record { refusal = 0; bend = 0; rows = rows })
+Holds (tooFar s p) = skeletonAnswer cornerLimit s ≡ record { refusal = 5; bend = p; skeleton = false }
 Holds (closed cs w ss) = (closedStart pointLimit cs w None .refusal ≡ 0) × Walks cs (closedStart pointLimit cs w None .walk) ss
 Holds (refused isClosed cs w n) = routeRefusal pointLimit isClosed cs w ≡ n
 
@@ -123,7 +126,7 @@ run s e = runOf (pos s) (pos e)
 unfoldable pub legsOf216 : Case
 legsOf216 =
     let tip : Corners = record { left = pointOf (pos 217) (negsuc 0); right = pointOf (pos 215) (pos 1) } in
-    joins (pointOf (pos 0) (pos 0)) (pointOf (pos 216) (pos 0)) (pointOf (pos 216) (pos 216)) (pos 3) None (record { kind = Miter; ending = tip; starting = tip; origins = originsOf (Crossing (divided Exact Exact)) (Crossing (divided Exact Exact)) })
+    joins (pointOf (pos 0) (pos 0)) (pointOf (pos 216) (pos 0)) (pointOf (pos 216) (pos 216)) (pos 3) None (record { kind = Miter; ending = tip; starting = tip; origins = originsOf (Crossing (divided Exact Exact)) (Crossing (divided Exact Exact)); position = 1 })
 
 unfoldable pub cases : List Case
 cases =

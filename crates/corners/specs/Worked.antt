@@ -1,6 +1,7 @@
 -- Cases worked out by hand from 01's rules W1 to W5 and its modules 4 and 5, and from 02's K4 and K8, in one list: what the P cases leave to definitions.
 use mathlib.Core.Bool.{true, false}
 use mathlib.Core.List.{List, [], _∷_}
+use Prim.Native.Nat.{ℕ}
 use lib.IntN.{ℤ, pos, negsuc}
 use Rattle.whole.specs.declared.Division.the-variants.{Exact, Half, Rounded}
 use Rattle.shapes.specs.declared.Side.{Side}
@@ -16,9 +17,10 @@ use Rattle.line_join.specs.declared.Caps.the-variants.{Two}
 use Rattle.line_join.specs.declared.Origin.the-variants.{Crossing, NotACrossing}
 use Rattle.line_join.specs.Origins.{noCrossings, originsOf}
 use Rattle.line_join.specs.Join.{cornersOf, alike}
+use Rattle.line_join.specs.Standing.{standingAt}
 use Rattle.thick_segment.specs.declared.Rectangle.{Rectangle}
 use Rattle.thick_segment.specs.Rows.{rowsFrom}
-use Rattle.corners.specs.Cases.{Case, crossing, joins, stroked, capped, rowed, closed, line, divided}
+use Rattle.corners.specs.Cases.{Case, crossing, joins, stroked, capped, rowed, tooFar, closed, line, divided}
 
 -- ---- crossings that are not whole
 
@@ -144,21 +146,21 @@ rightOnly =
 unfoldable pub bevelLeft : Case
 bevelLeft =
     joins (pointOf (pos 0) (pos 0)) (pointOf (pos 6) (pos 0)) (pointOf (negsuc 2) (pos 3)) (pos 3) offset.None
-    (record { kind = Bevel Left; ending = cornersOf (pointOf (pos 6) (negsuc 0)) (pointOf (pos 0) (pos 1)); starting = cornersOf (pointOf (pos 6) (pos 1)) (pointOf (pos 0) (pos 1)); origins = originsOf NotACrossing (Crossing (divided Exact Exact)) })
+    (record { kind = Bevel Left; ending = cornersOf (pointOf (pos 6) (negsuc 0)) (pointOf (pos 0) (pos 1)); starting = cornersOf (pointOf (pos 6) (pos 1)) (pointOf (pos 0) (pos 1)); origins = originsOf NotACrossing (Crossing (divided Exact Exact)); position = 1 })
 
 -- (0,0), (6,0), (-3,-3). Second edges: left (6,1)-(-3,-2), right (6,-1)-(-3,-4). Crossings (0,-1) and (12,1), determinant 18: Right.
 -- (-3,-2) is on the left of y = -1: no overlap. (12,1) is 37 from (6,0): cut at (6,1) and (6,-1). The left corner is the true crossing.
 unfoldable pub bevelRight : Case
 bevelRight =
     joins (pointOf (pos 0) (pos 0)) (pointOf (pos 6) (pos 0)) (pointOf (negsuc 2) (negsuc 2)) (pos 3) offset.None
-    (record { kind = Bevel Right; ending = cornersOf (pointOf (pos 0) (negsuc 0)) (pointOf (pos 6) (pos 1)); starting = cornersOf (pointOf (pos 0) (negsuc 0)) (pointOf (pos 6) (negsuc 0)); origins = originsOf (Crossing (divided Exact Exact)) NotACrossing })
+    (record { kind = Bevel Right; ending = cornersOf (pointOf (pos 0) (negsuc 0)) (pointOf (pos 6) (pos 1)); starting = cornersOf (pointOf (pos 0) (negsuc 0)) (pointOf (pos 6) (negsuc 0)); origins = originsOf (Crossing (divided Exact Exact)) NotACrossing; position = 1 })
 
 -- (0,0), (4,0), (-2,1). Second edges: left (4,1)-(-2,2), right (4,-1)-(-2,0). Determinant -4: Left; 16 is below the dot product 24, so
 -- both crossings are replaced by the first edges' ends. (-2,0) is on the left of y = 1: overlap. The edges end and start where they are.
 unfoldable pub degenerate : Case
 degenerate =
     joins (pointOf (pos 0) (pos 0)) (pointOf (pos 4) (pos 0)) (pointOf (negsuc 1) (pos 1)) (pos 3) offset.None
-    (record { kind = Degenerate Left; ending = cornersOf (pointOf (pos 4) (negsuc 0)) (pointOf (pos 4) (pos 1)); starting = cornersOf (pointOf (pos 4) (pos 1)) (pointOf (pos 4) (negsuc 0)); origins = noCrossings })
+    (record { kind = Degenerate Left; ending = cornersOf (pointOf (pos 4) (negsuc 0)) (pointOf (pos 4) (pos 1)); starting = cornersOf (pointOf (pos 4) (pos 1)) (pointOf (pos 4) (negsuc 0)); origins = noCrossings; position = 1 })
 
 -- (-12,0), (0,0), (-9,4). First edges: left (-12,-1)-(0,-1), right (-12,1)-(0,1); second: left (0,1)-(-9,5), right (0,-1)-(-9,3). The left
 -- ones cross at (9/2, -1), the right ones at (-9/2, 1): both columns go away from zero. Determinant (-9)·0 - 4·12 = -48: Left; 48² is not
@@ -167,7 +169,7 @@ unfoldable pub halfMiter : Case
 halfMiter =
     let tip = cornersOf (pointOf (pos 5) (negsuc 0)) (pointOf (negsuc 4) (pos 1)) in
     joins (pointOf (negsuc 11) (pos 0)) (pointOf (pos 0) (pos 0)) (pointOf (negsuc 8) (pos 4)) (pos 3) offset.None
-    (record { kind = Miter; ending = tip; starting = tip; origins = originsOf (Crossing (divided Half Exact)) (Crossing (divided Half Exact)) })
+    (record { kind = Miter; ending = tip; starting = tip; origins = originsOf (Crossing (divided Half Exact)) (Crossing (divided Half Exact)); position = 1 })
 
 -- (-12,0), (0,0), (-10,3). Second edges: left (0,1)-(-10,4), right (0,-1)-(-10,2). The left ones cross at (20/3, -1), the right ones at
 -- (-20/3, 1). Determinant -36: Left; 36² is not below 120. (-10,2) is on the right of y = 1: no overlap. (7,-1) is 50 from (0,0): cut at
@@ -175,7 +177,7 @@ halfMiter =
 unfoldable pub roundedBevel : Case
 roundedBevel =
     joins (pointOf (negsuc 11) (pos 0)) (pointOf (pos 0) (pos 0)) (pointOf (negsuc 9) (pos 3)) (pos 3) offset.None
-    (record { kind = Bevel Left; ending = cornersOf (pointOf (pos 0) (negsuc 0)) (pointOf (negsuc 6) (pos 1)); starting = cornersOf (pointOf (pos 0) (pos 1)) (pointOf (negsuc 6) (pos 1)); origins = originsOf NotACrossing (Crossing (divided Rounded Exact)) })
+    (record { kind = Bevel Left; ending = cornersOf (pointOf (pos 0) (negsuc 0)) (pointOf (negsuc 6) (pos 1)); starting = cornersOf (pointOf (pos 0) (pos 1)) (pointOf (negsuc 6) (pos 1)); origins = originsOf NotACrossing (Crossing (divided Rounded Exact)); position = 1 })
 
 -- (0,0), (4,0), (10,1). Second edges: left (4,-1)-(10,0), right (4,1)-(10,2). Determinant 6·0 - 1·4 = -4: Left; 16 is below the dot product
 -- 24, so both crossings are replaced by the first edges' ends. (10,2) is on the right of y = 1: no overlap. (4,-1) is 1 from (4,0): kept.
@@ -183,7 +185,7 @@ unfoldable pub nearMiter : Case
 nearMiter =
     let tip = cornersOf (pointOf (pos 4) (negsuc 0)) (pointOf (pos 4) (pos 1)) in
     joins (pointOf (pos 0) (pos 0)) (pointOf (pos 4) (pos 0)) (pointOf (pos 10) (pos 1)) (pos 3) offset.None
-    (record { kind = Miter; ending = tip; starting = tip; origins = noCrossings })
+    (record { kind = Miter; ending = tip; starting = tip; origins = noCrossings; position = 1 })
 
 -- ---- a join at width 7: seven Normal parallels, so that the edges are three pixels to either side; and its caps
 
@@ -192,7 +194,7 @@ nearMiter =
 -- ones at (-3,3). Determinant (-2)·6 - 0·0 = -12: Left is the outer side; 12² is not below the dot product 0. (-2,3) is on the left of
 -- x = -3: overlap. The edges end and start where they are.
 abbrev stub : Join
-stub = record { kind = Degenerate Left; ending = cornersOf (pointOf (pos 3) (pos 6)) (pointOf (negsuc 2) (pos 6)); starting = cornersOf (pointOf (pos 0) (pos 9)) (pointOf (pos 0) (pos 3)); origins = noCrossings }
+stub = record { kind = Degenerate Left; ending = cornersOf (pointOf (pos 3) (pos 6)) (pointOf (negsuc 2) (pos 6)); starting = cornersOf (pointOf (pos 0) (pos 9)) (pointOf (pos 0) (pos 3)); origins = noCrossings; position = 1 }
 
 unfoldable pub shortTurn : Case
 shortTurn = joins (pointOf (pos 0) (pos 0)) (pointOf (pos 0) (pos 6)) (pointOf (negsuc 1) (pos 6)) (pos 7) offset.None stub
@@ -227,10 +229,25 @@ unfoldable pub cutCorner : Case
 cutCorner =
     rowed
     (record {
-      start = record { kind = Bevel Left; ending = cornersOf (pointOf (pos 0) (negsuc 7)) (pointOf (pos 0) (pos 2)); starting = cornersOf (pointOf (pos 4) (pos 0)) (pointOf (pos 0) (pos 2)); origins = noCrossings };
+      start = record { kind = Bevel Left; ending = cornersOf (pointOf (pos 0) (negsuc 7)) (pointOf (pos 0) (pos 2)); starting = cornersOf (pointOf (pos 4) (pos 0)) (pointOf (pos 0) (pos 2)); origins = noCrossings; position = 0 };
       end = alike End (cornersOf (pointOf (pos 10) (pos 0)) (pointOf (pos 10) (pos 2)));
     })
     (box (pos 0) (pos 0) (pos 10) (pos 2)) (rowsFrom (negsuc 3) (pos 2))
+
+-- ---- segments that are refused with 5: the start join is looked at first, whatever the positions are
+
+-- a join at (x,0) whose four corners are that point
+abbrev standing : ℕ → ℤ → Join
+standing p x = standingAt p (alike Miter (cornersOf (pointOf x (pos 0)) (pointOf x (pos 0))))
+
+unfoldable pub startTooFar : Case
+startTooFar = tooFar (record { start = standing 7 (pos 4096); end = standing 3 (pos 0) }) 7
+
+unfoldable pub endTooFar : Case
+endTooFar = tooFar (record { start = standing 7 (pos 4095); end = standing 3 (negsuc 4095) }) 3
+
+unfoldable pub bothTooFar : Case
+bothTooFar = tooFar (record { start = standing 7 (pos 4096); end = standing 3 (negsuc 4095) }) 7
 
 -- ---- a closed route of two points, (0,0) and (4,0), at width 3: out and back
 
@@ -240,11 +257,11 @@ out = alike Start (cornersOf (pointOf (pos 0) (negsuc 0)) (pointOf (pos 0) (pos 
 
 -- the second is that of (0,0), (4,0), (0,0), whose determinant is 0. The way back has its left at y = 1
 abbrev back : Join
-back = record { kind = Colinear; ending = cornersOf (pointOf (pos 4) (negsuc 0)) (pointOf (pos 4) (pos 1)); starting = cornersOf (pointOf (pos 4) (pos 1)) (pointOf (pos 4) (negsuc 0)); origins = noCrossings }
+back = record { kind = Colinear; ending = cornersOf (pointOf (pos 4) (negsuc 0)) (pointOf (pos 4) (pos 1)); starting = cornersOf (pointOf (pos 4) (pos 1)) (pointOf (pos 4) (negsuc 0)); origins = noCrossings; position = 1 }
 
 -- two segments
 unfoldable pub outAndBack : Case
 outAndBack = closed (pos 0 ∷ pos 0 ∷ pos 4 ∷ pos 0 ∷ []) (pos 3) (record { start = out; end = back } ∷ record { start = back; end = out } ∷ [])
 
 unfoldable pub worked : List Case
-worked = roundedBoth ∷ halfBelow ∷ evenWidth ∷ oddWidth ∷ turnedRound ∷ atThreshold ∷ diagonal ∷ leftOnly ∷ rightOnly ∷ bevelLeft ∷ bevelRight ∷ degenerate ∷ halfMiter ∷ roundedBevel ∷ nearMiter ∷ shortTurn ∷ oddFiller ∷ skeleton ∷ cutCorner ∷ outAndBack ∷ []
+worked = roundedBoth ∷ halfBelow ∷ evenWidth ∷ oddWidth ∷ turnedRound ∷ atThreshold ∷ diagonal ∷ leftOnly ∷ rightOnly ∷ bevelLeft ∷ bevelRight ∷ degenerate ∷ halfMiter ∷ roundedBevel ∷ nearMiter ∷ shortTurn ∷ oddFiller ∷ skeleton ∷ cutCorner ∷ startTooFar ∷ endTooFar ∷ bothTooFar ∷ outAndBack ∷ []

@@ -21,7 +21,7 @@ use Rattle.line_join.proofs.Filler as the-filler
 pub not-filled : (x : Filler) (c : Corners) → OneOf (1 ∷ 2 ∷ []) (tagOf the-filler.the-type x) → cappedBy x c ≡ One (lineOf (c .left) (c .right))
 not-filled (Filled l) c h = absurd (miss (1 ∷ 2 ∷ []) 0 tt h)
 not-filled Nothing c h = refl
-not-filled (Refused n) c h = refl
+not-filled (Refused n b) c h = refl
 
 pub not-bevelled : (k : Kind) (e t : Corners) → OneOf (0 ∷ 3 ∷ 4 ∷ 5 ∷ []) (tagOf the-kind.the-type k) → fillerBy k e t ≡ Nothing
 not-bevelled Miter e t h = refl

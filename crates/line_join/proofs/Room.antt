@@ -118,7 +118,7 @@ join-room j e = join-near-more (join-near-iff cornerLimit j .0 e) (lit≤ tt)
 abbrev pub FillerNear : ℕ → Filler → Type 0
 FillerNear k (Filled l) = LineNear k l
 FillerNear k Nothing = T true
-FillerNear k (filler.Refused n) = T true
+FillerNear k (filler.Refused n b) = T true
 
 between-near : {k : ℕ} (s : Side) {e t : Corners} → CornersNear k e → CornersNear k t → LineNear k (between s e t)
 between-near s p q = line-of-near (outer-near s p) (outer-near s q)

@@ -56,7 +56,7 @@ fillerOf j = fillerBy (j .kind) (j .ending) (j .starting)
 abbrev pub cappedBy : Filler → Corners → Caps
 cappedBy (Filled l) c = Two (lineOf (c .left) (midpoint l)) (lineOf (midpoint l) (c .right))
 cappedBy Nothing c = One (lineOf (c .left) (c .right))
-cappedBy (Refused n) c = One (lineOf (c .left) (c .right))
+cappedBy (Refused n b) c = One (lineOf (c .left) (c .right))
 
 unfoldable pub capOf : Join → Corners → Caps
 capOf j c = cappedBy (fillerOf j) c

@@ -58,20 +58,20 @@ abbrev pub cutOff : Side → Corners → Corners → Corners
 cutOff Left edge crossing = cornersOf (edge .left) (crossing .right)
 cutOff Right edge crossing = cornersOf (crossing .left) (edge .right)
 
--- ---- joins, by their corners; `traced` sets their origins in the end
+-- ---- joins, by their corners; `traced` sets their origins in the end, and whoever knows their list the position, 0 until then
 
 -- one line begins just where the other ends
 abbrev pub alike : Kind → Corners → Join
-alike k c = record { kind = k; ending = c; starting = c; origins = noCrossings }
+alike k c = record { kind = k; ending = c; starting = c; origins = noCrossings; position = 0 }
 
 -- at the ends of the edges
 abbrev pub plain : Kind → Edges → Edges → Join
-plain k first second = record { kind = k; ending = endsOf first; starting = startsOf second; origins = noCrossings }
+plain k first second = record { kind = k; ending = endsOf first; starting = startsOf second; origins = noCrossings; position = 0 }
 
 -- a bevel: the inner corner stays, and the outer one is cut off
 abbrev pub cut : Side → Corners → Edges → Edges → Join
 cut s crossing first second =
-    record { kind = kind.Bevel s; ending = cutOff s (endsOf first) crossing; starting = cutOff s (startsOf second) crossing; origins = noCrossings }
+    record { kind = kind.Bevel s; ending = cutOff s (endsOf first) crossing; starting = cutOff s (startsOf second) crossing; origins = noCrossings; position = 0 }
 
 -- ---- the join of edges
 

@@ -51,7 +51,7 @@ originsBy End l r = noCrossings
 
 -- a join with its origins, where the edges on the left and on the right meet with these
 abbrev pub tracedBy : Origin → Origin → Join → Join
-tracedBy l r j = record { kind = j .kind; ending = j .ending; starting = j .starting; origins = originsBy (j .kind) l r }
+tracedBy l r j = record { kind = j .kind; ending = j .ending; starting = j .starting; origins = originsBy (j .kind) l r; position = j .position }
 
 abbrev pub traced : Edges → Edges → Join → Join
 traced first second j = tracedBy (originOf (second .left) (first .left)) (originOf (second .right) (first .right)) j

@@ -1,8 +1,9 @@
--- What 01's order says of a join's kind and of its refusal, in words: when it is which; and what 02's K4 says of its origins.
+-- What 01's order says of a join's kind and of its refusal, in words: when it is which; what 02's K4 says of its origins; and of which
+-- join K9 speaks.
 use mathlib.Core.Path.{_≡_}
 use mathlib.Core.Logic.{_↔_, _⊎_, _≢_}
 use mathlib.Core.Bool.{true, false}
-use Prim.Native.Nat.{ℕ}
+use Prim.Native.Nat.{ℕ, _<_}
 use lib.IntN.{ℤ, pos}
 use lib.Signed.{_≤ℤ_, _<ℤ_}
 use Rattle.shapes.specs.declared.Point.{Point}
@@ -24,6 +25,7 @@ use Rattle.line_join.specs.declared.Origins.{Origins}
 use Rattle.line_join.specs.declared.Join.{Join}
 use Rattle.line_join.specs.Miter.{miterLimit}
 use Rattle.line_join.specs.Join.{meet, outer, overlapping}
+use Rattle.line_join.specs.Caps.{JoinNear}
 
 module _ (first second : Edges) where
   -- one of the two determinants is 0
@@ -72,6 +74,22 @@ pub record Refusals (W P C : Type 0) (n : ℕ) : Type 0 where
   pub width : (n ≡ 3) ↔ (W → ⊥)
   pub points : (n ≡ 4) ↔ (W × (P → ⊥))
   pub corners : (n ≡ 5) ↔ (W × (P × (C → ⊥)))
+
+-- ---- the bend that 5 names
+
+-- of `count` joins in the order of a walk: the first with a corner beyond k has this position, and every join before it is within
+pub record Named (k : ℕ) (join : ℕ → Join) (count bend : ℕ) : Type 0 where
+  pub place : ℕ
+  pub inside : place < count
+  pub outside : JoinNear k (join place) → ⊥
+  pub before : (i : ℕ) → i < place → JoinNear k (join i)
+  pub told : join place .position ≡ bend
+
+-- what an answer of such joins tells of them: 5 and a position exactly when what is tested before lets through (Free) and the join of that
+-- position is named; with every other refusal, and with none, 0
+pub record BendTold (Free : Type 0) (k : ℕ) (join : ℕ → Join) (count refusal bend : ℕ) : Type 0 where
+  pub five : (p : ℕ) → ((refusal ≡ 5) × (bend ≡ p)) ↔ (Free × Named k join count p)
+  pub other : refusal ≢ 5 → bend ≡ 0
 
 -- ---- what two edges meet at
 

@@ -1,4 +1,4 @@
-//! The join of two thick lines, from their edges.
+//! The join of two thick lines, from their edges. Edges know of no list: its position is 0 until `place` sets it.
 ghost use mathlib.Core.Path.{_≡_};
 ghost use Rattle.shapes.specs.Limits.{lineLimit};
 ghost use Rattle.shapes.specs.Shape.{Near, LineNear};
@@ -137,6 +137,7 @@ pub fn at_edges(kind: Kind, first: Edges, second: Edges) -> Join
         ending: ends(first),
         starting: starts(second),
         origins: no_crossings(),
+        position: 0,
     }
 }
 
@@ -149,6 +150,7 @@ pub fn same_corners(kind: Kind, corners: Corners) -> Join
         ending: corners,
         starting: corners,
         origins: no_crossings(),
+        position: 0,
     }
 }
 
@@ -161,6 +163,7 @@ pub fn bevel(side: Side, crossing: Corners, first: Edges, second: Edges) -> Join
         ending: cut_off(side, ends(first), crossing),
         starting: cut_off(side, starts(second), crossing),
         origins: no_crossings(),
+        position: 0,
     }
 }
 

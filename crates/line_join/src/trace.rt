@@ -18,6 +18,7 @@ pub fn traced(join: Join, left: Origin, right: Origin) -> Join
     Join {
         kind,
         origins,
+        position: join.position,
         ending,
         starting,
     }

@@ -11,6 +11,7 @@ use borrow.Author.Tests.{eqb-true, eq-eqb}
 use lib.Dec.{eqb}
 use lib.IntN.{ℤ, natAbs, _-ℤ_}
 use Rattle.whole.specs.Places.{listFrom}
+use Rattle.whole.proofs.Tests.{either}
 use Rattle.shapes.specs.declared.limits.Limits.{Limits}
 use Rattle.shapes.specs.Refusals.{orElse}
 use Rattle.thick_segment.specs.declared.Rows.{Rows}
@@ -18,11 +19,11 @@ use Rattle.thick_segment.specs.Rows.{drawnRows}
 use Rattle.coordinates.specs.Points.{segmentsOf}
 use Rattle.coordinates.specs.Neighbours.{Doubled}
 use Rattle.coordinates.specs.Refusal.{routeRefusal}
-use Rattle.route_joins.specs.Joins.{segmentAt, segmentCount, joinCount}
+use Rattle.route_joins.specs.Joins.{segmentAt, segmentCount, joinCount, routeBend}
 use Rattle.route.specs.declared.Joins.{Joins}
 use Rattle.route.specs.declared.RowRange.{RowRange}
 use Rattle.route.specs.Joined.{joinsOf, segmentsIn}
-use Rattle.route.specs.Rows.{withRows, withAll, drawnIn, noRows, rowsIn, RowsNear, rowCount, rowAt, firstOf, roomAt, rowsRefusal}
+use Rattle.route.specs.Rows.{rangeOf, withRows, withAll, drawnIn, noRows, rowsIn, RowsNear, rowCount, rowAt, firstOf, roomAt, rowsRefusal}
 use Rattle.route.specs.Words.{SomeFull}
 use Rattle.route.specs.Answers.{drawRefusal, rowsAnswer, wholeRefusal, refusalOn, rowRefusal}
 use Rattle.route.proofs.Bounds.{Bounds, bounds}
@@ -36,18 +37,24 @@ use Rattle.route.proofs.Refused.{draw-none, draw-most, doubled-later, o
 
 -- ---- the rows of a route
 
-pub all-refusal : (range : RowRange) (rs : List Rows) → range .refusal ≡ 0 → withAll range rs .refusal ≡ 0
+-- nothing is refused on the way: a field that is 0 in every range of rows stays 0
+all-zero : (field : RowRange → ℕ) → ((r : Rows) → field (rangeOf r) ≡ 0) → (range : RowRange) (rs : List Rows) → field range ≡ 0 → field (withAll range rs) ≡ 0
 unfolding withAll withRows
-all-refusal range [] e = e
-all-refusal range (r ∷ rs) e = all-refusal (withRows range r) rs (by (range .some) refl)
-  where
-    by : (t : Bool) → range .some ≡ t → withRows range r .refusal ≡ 0
-    by true s = rw s
-    by false s = rw s
+all-zero field zeros range [] e = e
+all-zero field zeros range (r ∷ rs) e = all-zero field zeros (withRows range r) rs (either (λ g. field g ≡ 0) (range .some) (λ s. zeros _) (λ s. zeros r))
+
+pub all-refusal : (range : RowRange) (rs : List Rows) → range .refusal ≡ 0 → withAll range rs .refusal ≡ 0
+all-refusal = all-zero (λ r. r .refusal) (λ r. refl)
+
+pub all-bend : (range : RowRange) (rs : List Rows) → range .bend ≡ 0 → withAll range rs .bend ≡ 0
+all-bend = all-zero (λ r. r .bend) (λ r. refl)
 
 module _ (limits : Limits) (closed : Bool) (cs : List ℤ) (w : ℤ) where
   abbrev d : ℕ
   d = drawRefusal limits closed cs w
+
+  abbrev b : ℕ
+  b = routeBend limits closed cs w
 
   abbrev route : Joins
   route = joinsOf (limits .corner) closed cs w
@@ -60,36 +67,36 @@ module _ (limits : Limits) (closed : Bool) (cs : List ℤ) (w : ℤ) where
   unfolding rowsAnswer
   answer-is e = rw (eq-eqb d 0 e)
 
-  walk-rows : d ≡ 0 → rowsAnswer limits closed cs w ≡ withAll (noRows 0) (listFrom drawnAt 0 (segmentCount closed cs))
+  walk-rows : d ≡ 0 → rowsAnswer limits closed cs w ≡ withAll (noRows 0 0) (listFrom drawnAt 0 (segmentCount closed cs))
   unfolding rowsIn joinsOf
   walk-rows e =
       answer-is e
-      ∙ ap (withAll (noRows 0)) (list-same (drawnIn route) drawnAt (segmentsOf closed (joinCount cs)) (λ i h. ap drawnRows (segment-is (limits .corner) closed cs w h)))
-      ∙ ap (λ m. withAll (noRows 0) (listFrom drawnAt 0 m)) (segments-all (draw-none limits closed cs w .0 e .0))
+      ∙ ap (withAll (noRows 0 0)) (list-same (drawnIn route) drawnAt (segmentsOf closed (joinCount cs)) (λ i h. ap drawnRows (segment-is (limits .corner) closed cs w h)))
+      ∙ ap (λ m. withAll (noRows 0 0) (listFrom drawnAt 0 m)) (segments-all (draw-none limits closed cs w .0 e .0))
 
   pub rows-bounds : d ≡ 0 → 0 < segmentCount closed cs → Bounds drawnAt (segmentCount closed cs) (rowsAnswer limits closed cs w)
   rows-bounds e some = rw (walk-rows e) (bounds drawnAt (segmentCount closed cs) some)
 
   -- a route without segments has no rows
-  pub rows-none-of : d ≡ 0 → segmentCount closed cs ≡ 0 → rowsAnswer limits closed cs w ≡ noRows 0
+  pub rows-none-of : d ≡ 0 → segmentCount closed cs ≡ 0 → rowsAnswer limits closed cs w ≡ noRows 0 0
   unfolding withAll listFrom
-  rows-none-of e none = walk-rows e ∙ ap (λ m. withAll (noRows 0) (listFrom drawnAt 0 m)) none
+  rows-none-of e none = walk-rows e ∙ ap (λ m. withAll (noRows 0 0) (listFrom drawnAt 0 m)) none
 
-  rows-chosen : (t : Bool) → eqb d 0 ≡ t → cond t (rowsIn route) (noRows d) .refusal ≡ d
+  rows-chosen : (t : Bool) → eqb d 0 ≡ t → cond t (rowsIn route) (noRows d b) .refusal ≡ d
   unfolding rowsIn
-  rows-chosen true e = all-refusal (noRows 0) (listFrom (drawnIn route) 0 (segmentsIn route)) refl ∙ sym (eqb-true d 0 e)
+  rows-chosen true e = all-refusal (noRows 0 0) (listFrom (drawnIn route) 0 (segmentsIn route)) refl ∙ sym (eqb-true d 0 e)
   rows-chosen false e = refl
 
   pub rows-refusal : rowsAnswer limits closed cs w .refusal ≡ d
   unfolding rowsAnswer
   rows-refusal = rows-chosen (eqb d 0) refl
 
-  -- refused, every other field is 0
-  pub rows-refused : rowsAnswer limits closed cs w .refusal ≢ 0 → rowsAnswer limits closed cs w ≡ noRows (rowsAnswer limits closed cs w .refusal)
+  -- refused, every field is 0 but the number and what comes with 5
+  pub rows-refused : rowsAnswer limits closed cs w .refusal ≢ 0 → rowsAnswer limits closed cs w ≡ noRows (rowsAnswer limits closed cs w .refusal) (rowsAnswer limits closed cs w .bend)
   unfolding rowsAnswer
   rows-refused = by (eqb d 0) refl
     where
-      by : (t : Bool) → eqb d 0 ≡ t → cond t (rowsIn route) (noRows d) .refusal ≢ 0 → cond t (rowsIn route) (noRows d) ≡ noRows (cond t (rowsIn route) (noRows d) .refusal)
+      by : (t : Bool) → eqb d 0 ≡ t → cond t (rowsIn route) (noRows d b) .refusal ≢ 0 → let r = cond t (rowsIn route) (noRows d b) in r ≡ noRows (r .refusal) (r .bend)
       by true e some = absurd (some (rows-chosen true e ∙ eqb-true d 0 e))
       by false e some = refl
 

@@ -88,7 +88,7 @@ module _ (drawnAt : ℕ → Rows) where
     pub first-met : Met (λ r. r .first) 0 n (range .first)
     pub last-met : Met (λ r. r .last) 0 n (range .last)
 
-  pub bounds : (n : ℕ) → 0 < n → Bounds n (withAll (noRows 0) (listFrom drawnAt 0 n))
+  pub bounds : (n : ℕ) → 0 < n → Bounds n (withAll (noRows 0 0) (listFrom drawnAt 0 n))
   unfolding withAll listFrom withRows
   bounds zero h = absurd (omega arith)
   bounds (suc n) h =

@@ -1,4 +1,5 @@
 pub mod AllRows
+pub mod Bends
 pub mod Bounds
 pub mod Chains
 pub mod Drawn

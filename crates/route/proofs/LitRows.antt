@@ -151,7 +151,7 @@ module _ (limits : Limits) (closed : Bool) (cs : List ℤ) (w : ℤ) (free : dra
         ∙ none-offered (boardOf row []) (λ k. spanOn (segmentAt closed cs w k) row) (segmentCount closed cs) 0 (λ d h. rw (zero-add d) (outside-empty h))
 
     -- and the entry lists no run, whatever list is lent
-    pub outside-listed : Within row (limits .corner) → (out : List ℤ) → (rowAnswer limits closed cs w row (length out) ≡ noListing 0) × (rowTo limits closed cs w row out ≡ out)
+    pub outside-listed : Within row (limits .corner) → (out : List ℤ) → (rowAnswer limits closed cs w row (length out) ≡ noListing 0 0) × (rowTo limits closed cs w row out ≡ out)
     unfolding rowAnswer rowTo answerOn listOn refusalOn
     outside-listed inside out =
         let fresh = fresh-listed row out in

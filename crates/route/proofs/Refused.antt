@@ -15,6 +15,7 @@ use Rattle.whole.proofs.Tests.{replaced, never, bad-first, good-first, good-lat
 use Rattle.shapes.specs.declared.limits.Limits.{Limits}
 use Rattle.shapes.specs.Refusals.{orElse}
 use Rattle.line_join.specs.Caps.{JoinNear}
+use Rattle.line_join.specs.Words.{BendTold}
 use Rattle.board.specs.declared.Answer.{Answer}
 use Rattle.board.specs.declared.Board.{Board}
 use Rattle.board.specs.declared.Run.{Run}
@@ -23,8 +24,9 @@ use Rattle.board_laws.specs.Histories.{boardAfter}
 use Rattle.coordinates.specs.Refusal.{routeRefusal, Accepted}
 use Rattle.coordinates.specs.Neighbours.{Doubled}
 use Rattle.coordinates.proofs.Laws.{accepted-exactly, refused-most, doubled-refused}
-use Rattle.route_joins.specs.Joins.{joinAt, joinCount, areJoinsNear}
+use Rattle.route_joins.specs.Joins.{joinAt, joinCount, areJoinsNear, routeBend}
 use Rattle.route_joins.proofs.Near.{joins-exactly}
+use Rattle.route_joins.proofs.Bends.{route-bend}
 use Rattle.route.specs.declared.Joins.{Joins}
 use Rattle.route.specs.declared.Listing.{Listing}
 use Rattle.route.specs.Joined.{joinsOf}
@@ -63,6 +65,13 @@ module _ (limits : Limits) (closed : Bool) (cs : List ℤ) (w : ℤ) where
   draw-five =
       replaced taken-exactly
       (or-after before (cond near 0 5) (λ e _. refused-most (limits .point) closed cs w (omega arith) (λ e. omega arith) e) (good-first near near-exactly (λ e. omega arith)))
+
+  -- with 5 comes the first join, in the order of the walk, that has such a corner
+  pub draw-bend : BendTold (before ≡ 0) (limits .corner) (joinAt closed cs w) (joinCount cs) (drawRefusal limits closed cs w) (routeBend limits closed cs w)
+  unfolding drawRefusal
+  draw-bend =
+      route-bend limits closed cs w
+      (or-after before (cond near 0 5) (λ e _. refused-most (limits .point) closed cs w (omega arith) (λ e. omega arith) e) (good-first near (λ e. e, λ e. e) (λ e. omega arith)))
 
   -- any other number exactly when the list and the width are refused with it: 1 to 4, and 12
   pub draw-before : {m : ℕ} → 0 < m → m ≢ 5 → (drawRefusal limits closed cs w ≡ m) ↔ (before ≡ m)
@@ -178,14 +187,14 @@ told-eight : (b : Board) (len : ℕ) → (told b len .refusal ≡ 8) ↔ (2 * le
 told-eight b len = rw (told-number b len) (good-first (leb (2 * length (live b)) len) (leb-iff (2 * length (live b)) len) (λ e. omega arith))
 
 -- the number of a choice between three answers
-chosen-number : (d m : ℕ) (l : Listing) → cond (eqb d 0) (cond (eqb m 0) l (noListing m)) (noListing d) .refusal ≡ orElse (orElse d m) (l .refusal)
-chosen-number d m l = by (eqb d 0) refl
+chosen-number : (d b m : ℕ) (l : Listing) → cond (eqb d 0) (cond (eqb m 0) l (noListing m 0)) (noListing d b) .refusal ≡ orElse (orElse d m) (l .refusal)
+chosen-number d b m l = by (eqb d 0) refl
   where
-    second : (u : Bool) → cond u l (noListing m) .refusal ≡ cond u (l .refusal) m
+    second : (u : Bool) → cond u l (noListing m 0) .refusal ≡ cond u (l .refusal) m
     second true = refl
     second false = refl
 
-    by : (t : Bool) → eqb d 0 ≡ t → cond t (cond (eqb m 0) l (noListing m)) (noListing d) .refusal ≡ cond (eqb (cond t m d) 0) (l .refusal) (cond t m d)
+    by : (t : Bool) → eqb d 0 ≡ t → cond t (cond (eqb m 0) l (noListing m 0)) (noListing d b) .refusal ≡ cond (eqb (cond t m d) 0) (l .refusal) (cond t m d)
     by true e = second (eqb m 0)
     by false e = rw e
 
@@ -205,7 +214,7 @@ module _ (limits : Limits) (closed : Bool) (cs : List ℤ) (w row : ℤ) (len : 
 
   answer-number : a ≡ orElse r (told b len .refusal)
   unfolding rowAnswer answerOn rowRefusal
-  answer-number = chosen-number (drawRefusal limits closed cs w) (refusalOn (limits .corner) (joinsOf (limits .corner) closed cs w) row) (listingOf (told b len))
+  answer-number = chosen-number (drawRefusal limits closed cs w) (routeBend limits closed cs w) (refusalOn (limits .corner) (joinsOf (limits .corner) closed cs w) row) (listingOf (told b len))
 
   pub answer-none : (a ≡ 0) ↔ ((r ≡ 0) × (2 * length runs ≤ len))
   answer-none = rw answer-number (or-after r (told b len .refusal) (λ z no. no z) (told-none b len))

@@ -19,6 +19,7 @@ use Rattle.board.proofs.Sound.{sound-iff}
 use Rattle.board_laws.specs.Histories.{Event, covered, boardAfter, runsAfter, spansAfter, runsIn, columns, Demand3}
 use Rattle.board_laws.proofs.Demand.{demand-3}
 use Rattle.board_laws.proofs.Refused.{list-zero}
+use Rattle.route_joins.specs.Joins.{routeBend}
 use Rattle.route_joins.proofs.Near.{joins-exactly}
 use Rattle.route.specs.declared.Listing.{Listing}
 use Rattle.route.specs.Joined.{joinsOf}
@@ -126,17 +127,17 @@ module _ (limits : Limits) (closed : Bool) (cs : List ℤ) (w row : ℤ) (out : 
   abbrev answer : Listing
   answer = rowAnswer limits closed cs w row (length out)
 
-  told-refused : (t : Bool) → let a = listingOf (cond t (listing drawn) (notListed 8)) in a .refusal ≢ 0 → (a ≡ noListing (a .refusal)) × (cond t (over out (live drawn)) out ≡ out)
+  told-refused : (t : Bool) → let a = listingOf (cond t (listing drawn) (notListed 8)) in a .refusal ≢ 0 → (a ≡ noListing (a .refusal) (a .bend)) × (cond t (over out (live drawn)) out ≡ out)
   told-refused true some = absurd (some refl)
   told-refused false some = (refl, refl)
 
-  -- the number alone, and the list as it was
-  pub row-refused : answer .refusal ≢ 0 → (answer ≡ noListing (answer .refusal)) × (rowTo limits closed cs w row out ≡ out)
+  -- the number and what comes with 5 alone, and the list as it was
+  pub row-refused : answer .refusal ≢ 0 → (answer ≡ noListing (answer .refusal) (answer .bend)) × (rowTo limits closed cs w row out ≡ out)
   unfolding rowAnswer rowTo answerOn listOn told toldTo
   row-refused = by (eqb d 0) (eqb on 0)
     where
-      by : (t u : Bool) → let a = cond t (cond u (listingOf (told drawn (length out))) (noListing on)) (noListing d) in
-          a .refusal ≢ 0 → (a ≡ noListing (a .refusal)) × (cond t (cond u (toldTo drawn out) out) out ≡ out)
+      by : (t u : Bool) → let a = cond t (cond u (listingOf (told drawn (length out))) (noListing on 0)) (noListing d (routeBend limits closed cs w)) in
+          a .refusal ≢ 0 → (a ≡ noListing (a .refusal) (a .bend)) × (cond t (cond u (toldTo drawn out) out) out ≡ out)
       by true true some = told-refused (leb (2 * length (live drawn)) (length out)) some
       by true false some = (refl, refl)
       by false u some = (refl, refl)

@@ -13,24 +13,24 @@ use Rattle.line_join.specs.Answers.{noCorners}
 use Rattle.line_join.specs.Caps.{JoinNear}
 use Rattle.thick_segment.specs.declared.Segment.{Segment}
 use Rattle.coordinates.specs.Points.{segmentsOf}
-use Rattle.route_joins.specs.Joins.{joinAt, joinCount, areJoinsNear, endPlace}
+use Rattle.route_joins.specs.Joins.{joinAt, joinCount, nearJoins, endPlace}
 use Rattle.route.specs.declared.Joins.{Joins}
 
 -- what stands in the array beyond the joins
 abbrev pub noJoin : Join
-noJoin = record { kind = Miter; ending = noCorners; starting = noCorners; origins = noCrossings }
+noJoin = record { kind = Miter; ending = noCorners; starting = noCorners; origins = noCrossings; position = 0 }
 
 -- an array of 256 with the joins at its front
 unfoldable pub keptIn : List Join → List Join
 keptIn js = js ++ replicate (routePoints - length js) noJoin
 
--- those of a route, and whether all have their corners within k
+-- those of a route, and how many from the first on have their corners within k
 unfoldable pub joinsOf : ℕ → Bool → List ℤ → ℤ → Joins
 joinsOf k closed cs w =
     record {
       closed = closed;
       count = joinCount cs;
-      near = areJoinsNear k closed cs w;
+      near = nearJoins k closed cs w;
       joins = keptIn (listFrom (joinAt closed cs w) 0 (joinCount cs));
     }
 

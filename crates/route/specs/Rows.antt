@@ -35,11 +35,12 @@ boardOn route row = offerAll (boardOf row []) (listFrom (spanIn route row) 0 (se
 
 -- ---- the rows
 
-abbrev pub noRows : ℕ → RowRange
-noRows n = record { refusal = n; some = false; first = pos 0; last = pos 0 }
+-- b is the position that comes with 5
+abbrev pub noRows : ℕ → ℕ → RowRange
+noRows n b = record { refusal = n; bend = b; some = false; first = pos 0; last = pos 0 }
 
 abbrev pub rangeOf : Rows → RowRange
-rangeOf r = record { refusal = 0; some = true; first = r .first; last = r .last }
+rangeOf r = record { refusal = 0; bend = 0; some = true; first = r .first; last = r .last }
 
 abbrev pub ends : RowRange → Rows
 ends range = rowsFrom (range .first) (range .last)
@@ -56,7 +57,7 @@ abbrev pub drawnIn : Joins → ℕ → Rows
 drawnIn route k = drawnRows (segmentIn route k)
 
 unfoldable pub rowsIn : Joins → RowRange
-rowsIn route = withAll (noRows 0) (listFrom (drawnIn route) 0 (segmentsIn route))
+rowsIn route = withAll (noRows 0 0) (listFrom (drawnIn route) 0 (segmentsIn route))
 
 -- what a loop over rows asks
 pub record RowsNear (k : ℕ) (rows : RowRange) : Type 0 where

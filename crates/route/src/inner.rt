@@ -2,6 +2,7 @@
 ghost use mathlib.Core.Path.{_≡_};
 ghost use Prim.Native.Nat.{_≤_, _<_};
 ghost use lib.ListN.{length};
+ghost use Rattle.whole.specs.Places.{passedWith};
 ghost use Rattle.shapes.specs.Limits.{strokeLimit, lineLimit, routePoints, Roomy};
 ghost use Rattle.shapes.specs.Strokes.{Thin};
 ghost use Rattle.coordinates.specs.Points.{pointCount};
@@ -38,7 +39,6 @@ use thick_segment::Segment;
 use thick_segment::inner::around;
 use thick_segment::inner::drawn_rows;
 use thick_segment::inner::span;
-use whole::inner::both;
 use whole::inner::within;
 
 /// What stands in an array of joins beyond the joins.
@@ -55,6 +55,7 @@ fn no_join() -> Join
         ending: corners,
         starting: corners,
         origins: no_crossings(),
+        position: 0,
     }
 }
 
@@ -66,12 +67,26 @@ fn no_joins() -> Joins
     Joins {
         closed: false,
         count: 0,
-        near: true,
+        near: 0,
         joins: [none; 256],
     }
 }
 
-/// The joins of a route, and whether every one of them has all its corners within the limit.
+/// How many joins, from the first on, have their corners within the limit: `near` of those before place `i`, and whether the one at
+/// that place has.
+fn near_with(near: usize, i: usize, passes: bool) -> usize
+    requires { ⌜ i < routePoints ⌝ }
+    ensures { λ r. ⌜ r ≡ passedWith near i passes ⌝ }
+{
+    if near == i {
+        if passes {
+            return i + 1;
+        }
+    }
+    near
+}
+
+/// The joins of a route, and how many of them, from the first on, have all their corners within the limit.
 pub fn joins_of(coordinates: &[i64], width: i64, closed: bool, limit: u32) -> Joins
     requires { ⌜ AllWithin strokeLimit (now coordinates) ⌝ }
     requires { ⌜ Thin width ⌝ }
@@ -81,11 +96,11 @@ pub fn joins_of(coordinates: &[i64], width: i64, closed: bool, limit: u32) -> Jo
     let count = join_count(coordinates);
     let none = no_join();
     let mut joins = [none; 256];
-    let mut near = true;
+    let mut near: usize = 0;
     let mut i: usize = 0;
     while i < count {
         let join = join_on(coordinates, width, closed, Offset::None, i);
-        near = both(near, is_join_near(join, limit));
+        near = near_with(near, i, is_join_near(join, limit));
         joins[i] = join;
         i += 1;
     }
@@ -106,15 +121,21 @@ pub fn prepare(coordinates: &[i64], width: i64, closed: bool, limits: Limits) ->
     if number != 0 {
         return Prepared {
             refusal: number,
+            bend: 0,
             joins: no_joins(),
         };
     }
     let joins = joins_of(coordinates, width, closed, limits.corner);
-    if joins.near {
-        return Prepared { refusal: 0, joins };
+    if joins.near == joins.count {
+        return Prepared {
+            refusal: 0,
+            bend: 0,
+            joins,
+        };
     }
     Prepared {
         refusal: CORNER,
+        bend: joins.near,
         joins,
     }
 }
@@ -147,12 +168,13 @@ pub fn row_board(route: Joins, row: i64) -> Answer
     Answer { refusal: 0, board }
 }
 
-/// An answer that lists nothing.
-pub fn refused(number: u64) -> Listing
-    ensures { λ r. ⌜ r ≡ noListing number ⌝ }
+/// An answer that lists nothing; `bend` comes with 5.
+pub fn refused(number: u64, bend: usize) -> Listing
+    ensures { λ r. ⌜ r ≡ noListing number bend ⌝ }
 {
     Listing {
         refusal: number,
+        bend,
         count: 0,
         total: 0,
     }
@@ -167,16 +189,17 @@ pub fn row_of(route: Joins, row: i64, limit: u32, out: &mut [i64]) -> Listing
     if within(row, limit) {
         let answer = row_board(route, row);
         if answer.refusal != 0 {
-            return refused(answer.refusal);
+            return refused(answer.refusal, 0);
         }
         let listed = list_sound(answer.board, &mut *out);
         return Listing {
             refusal: listed.refusal,
+            bend: 0,
             count: listed.count,
             total: listed.total,
         };
     }
-    refused(ROW)
+    refused(ROW, 0)
 }
 
 /// The rows of a route so far, with those of one more segment.
@@ -191,6 +214,7 @@ fn with_rows(range: RowRange, rows: Rows) -> RowRange
         let wide = around(before, rows);
         return RowRange {
             refusal: 0,
+            bend: 0,
             some: true,
             first: wide.first,
             last: wide.last,
@@ -198,6 +222,7 @@ fn with_rows(range: RowRange, rows: Rows) -> RowRange
     }
     RowRange {
         refusal: 0,
+        bend: 0,
         some: true,
         first: rows.first,
         last: rows.last,
@@ -214,6 +239,7 @@ pub fn rows_of(route: Joins) -> RowRange
     let segments = segments_of(count, closed);
     let mut rows = RowRange {
         refusal: 0,
+        bend: 0,
         some: false,
         first: 0,
         last: 0,

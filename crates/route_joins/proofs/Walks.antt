@@ -1,5 +1,5 @@
 -- A walk, whatever its segments are: what its steps answer, and where they leave it. Assumes nothing.
-use mathlib.Core.Path.{_≡_, refl, sym, ap, _∙_}
+use mathlib.Core.Path.{_≡_, refl, sym, ap, subst, _∙_}
 use mathlib.Core.Logic.{_↔_, _≢_}
 use mathlib.Core.Bool.{Bool, true, false, cond}
 use mathlib.Core.List.{List}
@@ -14,18 +14,24 @@ use Rattle.whole.proofs.Tests.{else-false, ltb-iff, eqb-iff, never, good-first,
 use Rattle.shapes.specs.declared.Point.{Point}
 use Rattle.shapes.specs.Refusals.{cornerRefused}
 use Rattle.thick_segment.specs.declared.Segment.{Segment}
+use Rattle.coordinates.specs.Points.{pointCount}
 use Rattle.coordinates.specs.Refusal.{routeRefusal, Accepted}
 use Rattle.coordinates.proofs.Laws.{accepted-exactly, refused-most}
 use Rattle.shapes.specs.declared.limits.Limits.{Limits}
 use Rattle.shapes.specs.declared.Offset.{Offset}
-use Rattle.route_joins.specs.Joins.{segmentCount, segmentOf}
-use Rattle.thick_segment.specs.Segments.{SegmentNear, isSegmentNear}
+use Rattle.route_joins.specs.Joins.{endPlace, segmentCount, segmentOf}
+use Rattle.route_joins.proofs.Bends.{join-position}
+use Rattle.thick_segment.specs.Segments.{SegmentNear, isSegmentNear, farBend}
+use Rattle.thick_segment.specs.Words.{joinsIn}
 use Rattle.thick_segment.proofs.Refused.{segment-near-iff}
+use Rattle.thick_segment.proofs.Named.{segment-named, named-far}
 use Rattle.line_join.specs.declared.Join.{Join}
 use Rattle.line_join.specs.declared.Joined.the-variants.{Made}
 use Rattle.line_join.specs.Origins.{noCrossings}
 use Rattle.line_join.specs.Answers.{JoinValues, joinValues}
+use Rattle.line_join.specs.Words.{Named, BendTold}
 use Rattle.line_join.proofs.Answers.{join-values-tell}
+use Rattle.line_join.proofs.Named.{bend-told}
 use Rattle.route_joins.specs.declared.Step.{Step}
 use Rattle.route_joins.specs.declared.Step.the-variants.{Drawn, End, Refused}
 use Rattle.route_joins.specs.Steps.{StepValues, stepValues, checked, stepAt, routeStep, placeFrom, afterSteps, StepTold, SegmentBySegment}
@@ -33,7 +39,7 @@ use Rattle.route_joins.specs.Steps.{StepValues, stepValues, checked, ste
 -- ---- one step: `refusal` is that of the list and the width
 
 module _ (k refusal count : ℕ) (segment : ℕ → Segment) (place : ℕ) where
-  pub step-refused : 0 < refusal → stepAt k refusal count segment place ≡ stepValues (Refused refusal)
+  pub step-refused : 0 < refusal → stepAt k refusal count segment place ≡ stepValues (Refused refusal 0)
   unfolding stepAt
   step-refused h = rw (ne-eqb refusal 0 (λ e. omega (arith, e)))
 
@@ -47,7 +53,7 @@ module _ (k refusal count : ℕ) (segment : ℕ → Segment) (place : ℕ) where
       unfolding stepAt checked
       step-drawn e = rw (eq-eqb refusal 0 none, lt-ltb place count more, e)
 
-      pub step-corner : isSegmentNear k (segment place) ≡ false → stepAt k refusal count segment place ≡ stepValues (Refused cornerRefused)
+      pub step-corner : isSegmentNear k (segment place) ≡ false → stepAt k refusal count segment place ≡ stepValues (Refused cornerRefused (farBend k (segment place)))
       unfolding stepAt checked
       step-corner e = rw (eq-eqb refusal 0 none, lt-ltb place count more, e)
 
@@ -60,16 +66,16 @@ module _ (k refusal count : ℕ) (segment : ℕ → Segment) (place : ℕ) where
         far = λ none more far. step-corner none more (else-false (isSegmentNear k (segment place)) (λ e. far (segment-near-iff k (segment place) .0 e)));
       }
 
--- refused, every other number is 0: of both joins the kind and the eight coordinates too; and no corner is a crossing
+-- refused, every other number is 0: of both joins the kind, the position and the eight coordinates too; and no corner is a crossing
 abbrev at-zero : Point
 at-zero = record { x = pos 0; y = pos 0 }
 
 abbrev zeros : JoinValues
-zeros = record { refusal = 0; kind = 0; ending = record { left = at-zero; right = at-zero }; starting = record { left = at-zero; right = at-zero }; origins = noCrossings }
+zeros = record { refusal = 0; bend = 0; kind = 0; ending = record { left = at-zero; right = at-zero }; starting = record { left = at-zero; right = at-zero }; origins = noCrossings; position = 0 }
 
-pub refused-zeros : (n : ℕ) → stepValues (Refused n) ≡ record { refusal = n; found = 0; start = zeros; end = zeros }
+pub refused-zeros : (n b : ℕ) → stepValues (Refused n b) ≡ record { refusal = n; bend = b; found = 0; start = zeros; end = zeros }
 unfolding stepValues
-refused-zeros n = refl
+refused-zeros n b = refl
 
 -- where an answer leaves the walk: where no segment is answered, it stays
 pub place-kept : (v : StepValues) (place : ℕ) → v .found ≢ 1 → placeFrom v place ≡ place
@@ -80,9 +86,9 @@ moved-on : {v : StepValues} (s : Segment) → v ≡ stepValues (Drawn s) → (pl
 unfolding placeFrom stepValues
 moved-on s e place = rw e
 
-stayed : {v : StepValues} (n : ℕ) → v ≡ stepValues (Refused n) → (place : ℕ) → placeFrom v place ≡ place
+stayed : {v : StepValues} (n b : ℕ) → v ≡ stepValues (Refused n b) → (place : ℕ) → placeFrom v place ≡ place
 unfolding placeFrom stepValues
-stayed n e place = rw e
+stayed n b e place = rw e
 
 ended : {v : StepValues} → v ≡ stepValues End → (place : ℕ) → placeFrom v place ≡ place
 unfolding placeFrom stepValues
@@ -131,7 +137,7 @@ module _ {W : Type 0} (k : ℕ) (answer : W → StepValues) (after : W → W) (a
             answered (count + m) (stays count (moves count ∙ ap at (ended over count)) m count (walked count (omega arith) f)) over;
         refuses = λ i h f far m.
             let over = step-corner k 0 count segment i refl h (else-false (isSegmentNear k (segment i)) (λ e. far (segment-near-iff k (segment i) .0 e))) in
-            answered (i + m) (stays i (moves i ∙ ap at (stayed 5 over i)) m i (walked i (omega arith) f)) over;
+            answered (i + m) (stays i (moves i ∙ ap at (stayed 5 (farBend k (segment i)) over i)) m i (walked i (omega arith) f)) over;
       }
 
 -- ---- refusals: those of the list and the width, and then 5
@@ -142,7 +148,7 @@ module _ (k refusal count : ℕ) (segment : ℕ → Segment) (place : ℕ) where
   chain = by (eqb refusal 0) (ltb place count) (isSegmentNear k (segment place))
     where
       by : (t u v : Bool)
-          → cond t (cond u (cond v (stepValues (Drawn (segment place))) (stepValues (Refused 5))) (stepValues End)) (stepValues (Refused refusal)) .refusal ≡ cond t (cond u (cond v 0 5) 0) refusal
+          → cond t (cond u (cond v (stepValues (Drawn (segment place))) (stepValues (Refused 5 (farBend k (segment place))))) (stepValues End)) (stepValues (Refused refusal 0)) .refusal ≡ cond t (cond u (cond v 0 5) 0) refusal
       by true true true = refl
       by true true false = refl
       by true false v = refl
@@ -167,6 +173,47 @@ module _ (k refusal count : ℕ) (segment : ℕ → Segment) (place : ℕ) where
       )
       by false e = (λ h. h, λ h. h)
 
+  -- ---- with 5 comes the first join of the segment that has such a corner
+
+  abbrev values : Bool → Bool → Bool → StepValues
+  values t u v = cond t (cond u (cond v (stepValues (Drawn (segment place))) (stepValues (Refused 5 (farBend k (segment place))))) (stepValues End)) (stepValues (Refused refusal 0))
+
+  bend-five : (t u v : Bool) → refusal ≢ 5 → values t u v .refusal ≡ 5 → values t u v .bend ≡ farBend k (segment place)
+  unfolding stepValues
+  bend-five true true true other e = absurd (omega arith)
+  bend-five true true false other e = refl
+  bend-five true false v other e = absurd (omega arith)
+  bend-five false u v other e = absurd (other e)
+
+  bend-else : (t u v : Bool) → values t u v .refusal ≢ 5 → values t u v .bend ≡ 0
+  unfolding stepValues
+  bend-else true true true other = refl
+  bend-else true true false other = absurd (other refl)
+  bend-else true false v other = refl
+  bend-else false u v other = refl
+
+  pub step-named : refusal ≢ 5 → let v = stepAt k refusal count segment place in BendTold ((refusal ≡ 0) × (place < count)) k (joinsIn (segment place)) 2 (v .refusal) (v .bend)
+  unfolding stepAt checked
+  step-named other =
+      let five = five-exactly other in
+      let t = eqb refusal 0 in
+      let u = ltb place count in
+      let v = isSegmentNear k (segment place) in
+      bend-told k (joinsIn (segment place)) 2 (λ e. let h = five .0 e in ((h .0, h .1 .0), h .1 .1), λ h. five .1 (h .0 .0, (h .0 .1, h .1))) (named-far k (segment place))
+      (λ e. subst (Named k (joinsIn (segment place)) 2) (sym (bend-five t u v other e)) (segment-named k (segment place) (five .0 e .1 .1))) (bend-else t u v)
+
+  -- the joins that are answered have the positions of the segment's
+  joins-drawn : (t u v : Bool) → values t u v .found ≡ 1 → (values t u v .start .position ≡ segment place .start .position) × (values t u v .end .position ≡ segment place .end .position)
+  unfolding stepValues joinValues
+  joins-drawn true true true e = (refl, refl)
+  joins-drawn true true false e = absurd (omega arith)
+  joins-drawn true false v e = absurd (omega arith)
+  joins-drawn false u v e = absurd (omega arith)
+
+  pub step-positions : let v = stepAt k refusal count segment place in v .found ≡ 1 → (v .start .position ≡ segment place .start .position) × (v .end .position ≡ segment place .end .position)
+  unfolding stepAt checked
+  step-positions = joins-drawn (eqb refusal 0) (ltb place count) (isSegmentNear k (segment place))
+
 -- ---- a walk along a route, open or closed
 
 module _ (limits : Limits) (closed : Bool) (cs : List ℤ) (w : ℤ) (o : Offset) where
@@ -182,6 +229,20 @@ module _ (limits : Limits) (closed : Bool) (cs : List ℤ) (w : ℤ) (o : Offset
   pub route-other : (place : ℕ) {n : ℕ} → 0 < n → (n ≡ 5 → ⊥) → (routeStep limits closed cs w o place .refusal ≡ n) ↔ (routeRefusal (limits .point) closed cs w ≡ n)
   unfolding routeStep
   route-other place = others-exactly (limits .corner) _ _ _ place
+
+  -- with 5 comes the position of the first join of the segment that has such a corner
+  pub route-step-bend : (place : ℕ) → let v = routeStep limits closed cs w o place in
+      BendTold ((routeRefusal (limits .point) closed cs w ≡ 0) × (place < segmentCount closed cs)) (limits .corner) (joinsIn (segmentOf closed cs w o place)) 2 (v .refusal) (v .bend)
+  unfolding routeStep
+  route-step-bend place = step-named (limits .corner) _ _ _ place (refused-most (limits .point) closed cs w (omega arith) (λ e. omega arith))
+
+  -- the joins of a segment that is answered have its place and the place where it ends for their positions
+  pub route-step-positions : (place : ℕ) → let v = routeStep limits closed cs w o place in
+      v .found ≡ 1 → (v .start .position ≡ place) × (v .end .position ≡ endPlace closed (pointCount cs) place)
+  unfolding routeStep segmentOf
+  route-step-positions place e =
+      let h = step-positions (limits .corner) _ _ _ place e in
+      (h .0 ∙ join-position closed cs w o place, h .1 ∙ join-position closed cs w o (endPlace closed (pointCount cs) place))
 
   -- what a step answers at a place, whatever the place is
   pub route-told : (place : ℕ) → StepTold (limits .corner) (routeRefusal (limits .point) closed cs w) (segmentCount closed cs) (segmentOf closed cs w o) place (routeStep limits closed cs w o place)
@@ -217,10 +278,10 @@ unfolding stepValues
 values-tell (Drawn s) (Drawn t) e =
     ap Drawn (same-segment s t (same-join (s .start) (t .start) (ap (λ v. v .start) e)) (same-join (s .end) (t .end) (ap (λ v. v .end) e)))
 values-tell (Drawn s) End e = absurd (omega (arith, ap (λ v. v .found) e))
-values-tell (Drawn s) (Refused n) e = absurd (omega (arith, ap (λ v. v .found) e))
+values-tell (Drawn s) (Refused n b) e = absurd (omega (arith, ap (λ v. v .found) e))
 values-tell End (Drawn t) e = absurd (omega (arith, ap (λ v. v .found) e))
 values-tell End End e = refl
-values-tell End (Refused n) e = absurd (omega (arith, ap (λ v. v .found) e))
-values-tell (Refused m) (Drawn t) e = absurd (omega (arith, ap (λ v. v .found) e))
-values-tell (Refused m) End e = absurd (omega (arith, ap (λ v. v .found) e))
-values-tell (Refused m) (Refused n) e = ap Refused (ap (λ v. v .refusal) e)
+values-tell End (Refused n b) e = absurd (omega (arith, ap (λ v. v .found) e))
+values-tell (Refused m a) (Drawn t) e = absurd (omega (arith, ap (λ v. v .found) e))
+values-tell (Refused m a) End e = absurd (omega (arith, ap (λ v. v .found) e))
+values-tell (Refused m a) (Refused n b) e = let number = ap (λ v. v .refusal) e in let bend = ap (λ v. v .bend) e in cc (number, bend)

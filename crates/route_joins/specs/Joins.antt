@@ -1,20 +1,23 @@
--- The joins and the segments of a route by their place: thick_segment_iter.rs and closed_thick_segment_iter.rs, and 01's "Modules", 6.
+-- The joins and the segments of a route by their place: thick_segment_iter.rs and closed_thick_segment_iter.rs, and 01's "Modules", 6;
+-- with 02's K9.
 use mathlib.Core.Bool.{Bool, true, false, cond}
 use mathlib.Core.List.{List}
 use Prim.Native.Nat.{ℕ, _+_, _-_, _≤_}
 use lib.Dec.{eqb, leb}
 use lib.IntN.{ℤ}
-use Rattle.whole.specs.Places.{allFrom}
+use Rattle.whole.specs.Places.{allFrom, failsFrom}
 use Rattle.shapes.specs.declared.Offset.{Offset}
 use Rattle.shapes.specs.declared.Offset.the-variants.{None}
+use Rattle.shapes.specs.declared.limits.Limits.{Limits}
 use Rattle.shapes.specs.Limits.{strokeLimit}
 use Rattle.shapes.specs.Strokes.{Thin}
 use Rattle.line_join.specs.declared.Join.{Join}
 use Rattle.line_join.specs.Caps.{isJoinNear}
 use Rattle.line_join.specs.Join.{startOf, endOf, joinOf}
+use Rattle.line_join.specs.Standing.{standingAt}
 use Rattle.thick_segment.specs.declared.Segment.{Segment}
 use Rattle.coordinates.specs.Points.{pointAt, pointCount, placeAfter, placeBefore, segmentsOf}
-use Rattle.coordinates.specs.Refusal.{AllWithin}
+use Rattle.coordinates.specs.Refusal.{AllWithin, routeRefusal}
 
 -- ---- joins
 
@@ -33,9 +36,9 @@ closedJoin cs w o i =
     let n = pointCount cs in
     cond (eqb (n + i) 2) (startOf (pointAt cs 0) (pointAt cs 1) w o) (bendAt cs w o (placeBefore n i) i (placeAfter n i))
 
--- of a route, open or closed; the offset is a closed one's
+-- of a route, open or closed, with its place for its position; the offset is a closed one's
 unfoldable pub joinOn : Bool → List ℤ → ℤ → Offset → ℕ → Join
-joinOn closed cs w o i = cond closed (closedJoin cs w o i) (openJoin cs w i)
+joinOn closed cs w o i = standingAt i (cond closed (closedJoin cs w o i) (openJoin cs w i))
 
 -- a point alone has no join
 unfoldable pub joinCount : List ℤ → ℕ
@@ -73,10 +76,29 @@ closedSegment cs w o k = segmentOf true cs w o k
 abbrev pub closedCount : List ℤ → ℕ
 closedCount cs = segmentCount true cs
 
+-- a segment with the positions of its joins set; and without, as the Rust has it, which keeps none
+unfoldable pub standing : ℕ → ℕ → Segment → Segment
+standing i k s = record { start = standingAt i (s .start); end = standingAt k (s .end) }
+
+abbrev pub bare : Segment → Segment
+bare s = standing 0 0 s
+
 -- ---- 5: every join of a route has all its corners within k
 
+abbrev pub isNearAt : ℕ → Bool → List ℤ → ℤ → ℕ → Bool
+isNearAt k closed cs w i = isJoinNear k (joinAt closed cs w i)
+
 unfoldable pub areJoinsNear : ℕ → Bool → List ℤ → ℤ → Bool
-areJoinsNear k closed cs w = allFrom (λ i. isJoinNear k (joinAt closed cs w i)) 0 (joinCount cs)
+areJoinsNear k closed cs w = allFrom (isNearAt k closed cs w) 0 (joinCount cs)
+
+-- the place of the first that has not, the number of joins where all have
+unfoldable pub nearJoins : ℕ → Bool → List ℤ → ℤ → ℕ
+nearJoins k closed cs w = failsFrom (isNearAt k closed cs w) 0 (joinCount cs)
+
+-- the position that comes with 5, where the list and the width are not refused before; else 0
+unfoldable pub routeBend : Limits → Bool → List ℤ → ℤ → ℕ
+routeBend limits closed cs w =
+    cond (eqb (routeRefusal (limits .point) closed cs w) 0) (cond (areJoinsNear (limits .corner) closed cs w) 0 (nearJoins (limits .corner) closed cs w)) 0
 
 -- ---- what joins ask, so that nothing wraps
 

@@ -6,7 +6,7 @@ ghost use Rattle.shapes.specs.Strokes.{Thin};
 ghost use Rattle.coordinates.specs.Points.{pointCount};
 ghost use Rattle.coordinates.specs.Refusal.{AllWithin};
 ghost use Rattle.route_joins.specs.Joins.{Drawable, bendAt, openJoin, closedJoin, joinOn, joinCount, endPlace};
-ghost use Rattle.route_joins.specs.Joins.{segmentOf, segmentCount, areJoinsNear};
+ghost use Rattle.route_joins.specs.Joins.{segmentOf, segmentCount, nearJoins};
 ghost use Rattle.route_joins.specs.Steps.{stepValues, routeStep, placeFrom};
 use crate::Placed;
 use crate::Step;
@@ -21,10 +21,12 @@ use line_join::inner::end;
 use line_join::inner::from_points;
 use line_join::inner::is_join_near;
 use line_join::inner::start;
+use line_join::place::standing_at;
 use shapes::Offset;
 use shapes::limits::Limits;
 use shapes::refusals::CORNER;
 use thick_segment::Segment;
+use thick_segment::inner::far_bend;
 use thick_segment::inner::is_segment_near;
 
 /// The join at the point at place `i`, of the lines that come from place `before` and go to place `after`.
@@ -48,7 +50,7 @@ fn bend_at(
     from_points(a, b, c, width, offset)
 }
 
-/// The join at the point at place `i` of an open route.
+/// The join at the point at place `i` of an open route; its position is not set yet.
 fn open_join(coordinates: &[i64], width: i64, i: usize) -> Join
     requires { ⌜ Drawable (now coordinates) width ⌝ }
     requires { ⌜ i < pointCount (now coordinates) ⌝ }
@@ -67,7 +69,7 @@ fn open_join(coordinates: &[i64], width: i64, i: usize) -> Join
     bend_at(coordinates, width, Offset::None, i - 1, i, i + 1)
 }
 
-/// The join at the point at place `i` of a closed route.
+/// The join at the point at place `i` of a closed route; its position is not set yet.
 fn closed_join(coordinates: &[i64], width: i64, offset: Offset, i: usize) -> Join
     requires { ⌜ Drawable (now coordinates) width ⌝ }
     requires { ⌜ i < pointCount (now coordinates) ⌝ }
@@ -84,16 +86,17 @@ fn closed_join(coordinates: &[i64], width: i64, offset: Offset, i: usize) -> Joi
     bend_at(coordinates, width, offset, before, i, after)
 }
 
-/// The join at the point at place `i` of a route of two points or more, open or closed; the offset is a closed route's.
+/// The join at the point at place `i` of a route of two points or more, open or closed, with that place for its position; the
+/// offset is a closed route's.
 pub fn join_on(coordinates: &[i64], width: i64, closed: bool, offset: Offset, i: usize) -> Join
     requires { ⌜ Drawable (now coordinates) width ⌝ }
     requires { ⌜ i < pointCount (now coordinates) ⌝ }
     ensures { λ r. ⌜ r ≡ joinOn closed (now (coordinates .entry)) width offset i ⌝ }
 {
     if closed {
-        return closed_join(coordinates, width, offset, i);
+        return standing_at(closed_join(coordinates, width, offset, i), i);
     }
-    open_join(coordinates, width, i)
+    standing_at(open_join(coordinates, width, i), i)
 }
 
 /// How many joins a route has: one at each point; none where there is one point alone.
@@ -143,11 +146,12 @@ pub fn segment_of(
     Segment { start, end }
 }
 
-/// Whether every join of a route has all its corners within `limit`: if not, the route is refused with 5.
-pub fn are_joins_near(coordinates: &[i64], width: i64, closed: bool, limit: u32) -> bool
+/// How many joins of a route, from the first on, have all their corners within `limit`: all of them, or the place of the first that
+/// has not, at which the route is refused with 5.
+pub fn near_joins(coordinates: &[i64], width: i64, closed: bool, limit: u32) -> usize
     requires { ⌜ AllWithin strokeLimit (now coordinates) ⌝ }
     requires { ⌜ Thin width ⌝ }
-    ensures { λ r. ⌜ r ≡ areJoinsNear limit closed (now (coordinates .entry)) width ⌝ }
+    ensures { λ r. ⌜ r ≡ nearJoins limit closed (now (coordinates .entry)) width ⌝ }
 {
     let count = join_count(coordinates);
     let mut i: usize = 0;
@@ -156,14 +160,15 @@ pub fn are_joins_near(coordinates: &[i64], width: i64, closed: bool, limit: u32)
         if is_join_near(join, limit) {
             i += 1;
         } else {
-            return false;
+            return i;
         }
     }
-    true
+    count
 }
 
 /// The step of a walk, open or closed: the segment at the place, or the end past the last one, and the place after it. Refused as
-/// the list and the width are, and then with 5 if a join of the segment has a corner beyond the limit: the place then stays.
+/// the list and the width are, and then with 5 if a join of the segment has a corner beyond the limit, at the position of the first
+/// that has: the place then stays.
 pub fn step_at(
     coordinates: &[i64],
     width: i64,
@@ -179,7 +184,7 @@ pub fn step_at(
     let number = refusal(coordinates, width, closed, limits.point);
     if 0 < number {
         return Placed {
-            step: Step::Refused(number),
+            step: Step::Refused(number, 0),
             place,
         };
     }
@@ -193,7 +198,7 @@ pub fn step_at(
             };
         }
         return Placed {
-            step: Step::Refused(CORNER),
+            step: Step::Refused(CORNER, far_bend(segment, limits.corner)),
             place,
         };
     }

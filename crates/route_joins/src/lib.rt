@@ -10,8 +10,9 @@ pub enum Step {
     Drawn(Segment),
     /// There is no segment at the walk's place: it is past the last one.
     End,
-    /// Nothing was worked out; the number says why.
-    Refused(u64),
+    /// Nothing was worked out; the number says why. With 5 comes the position of the join with a corner beyond the limit, of the
+    /// start join if both have one; with every other number 0.
+    Refused(u64, usize),
 }
 
 /// What a step of a walk answers, and the place after it: one further if a segment was answered, else the same.

@@ -23,7 +23,7 @@ use shapes::limits::Limits;
 use writing::say;
 use writing::say_count;
 use writing::say_next;
-use writing::say_refused;
+use writing::say_refused_at;
 
 /// Pixels on their way round a loop.
 struct Sum {
@@ -83,11 +83,11 @@ fn print_rows(k: usize, route: Joins, rows: RowRange) -> i64
     sum.total
 }
 
-/// Prints the line of a refused route.
-fn print_refused(k: usize, number: u64) {
+/// Prints the line of a refused route; behind 5 stands the position of the bend.
+fn print_refused(k: usize, number: u64, bend: usize) {
     say_count(k as u64);
     say(b" ");
-    say_refused(number);
+    say_refused_at(number, bend);
     say(b"\n");
 }
 
@@ -98,14 +98,14 @@ fn print_route(k: usize, coordinates: &[i64], width: i64, closed: bool, limits: 
 {
     let route = prepare(coordinates, width, closed, limits);
     if route.refusal != 0 {
-        print_refused(k, route.refusal);
+        print_refused(k, route.refusal, route.bend);
         return 0;
     }
     let joins = route.joins;
     let rows = rows_of(joins);
     let number = rows_refusal(joins, rows);
     if number != 0 {
-        print_refused(k, number);
+        print_refused(k, number, 0);
         return 0;
     }
     print_rows(k, joins, rows)

@@ -89,7 +89,7 @@ module _ (limits : Limits) (cs : List ℤ) (w row : ℤ) (accepted : Accepted (l
 
   -- at the end: nothing is left to hand out, or what is gathered
   abbrev handed : ℕ → Handed → Merged
-  handed k t = record { refusal = 0; found = t .taken; span = t .span; walk = walkOf k w (t .rest) }
+  handed k t = record { refusal = 0; bend = 0; found = t .taken; span = t .span; walk = walkOf k w (t .rest) }
 
   end-is : (k : ℕ) (s : Span) → openCount cs ≤ k → Fine s → next (walkOf k w s) ≡ handed k (tryTaken s)
   unfolding mergedNext

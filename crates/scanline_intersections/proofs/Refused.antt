@@ -1,5 +1,5 @@
 -- What the refusals say: each number exactly when it is the first that holds, in the order of 01's table with K6's 12. Assumes nothing.
-use mathlib.Core.Path.{_≡_, refl, sym}
+use mathlib.Core.Path.{_≡_, refl, sym, _∙_}
 use mathlib.Core.Logic.{_↔_, _≢_}
 use mathlib.Core.Bool.{Bool, true, false, cond}
 use mathlib.Core.List.{List, [], _∷_}
@@ -9,7 +9,7 @@ use lib.Dec.{eqb}
 use lib.IntN.{ℤ, pos}
 use Rattle.whole.specs.Number.{Within, isWithin}
 use Rattle.whole.proofs.Laws.{within-iff}
-use Rattle.whole.proofs.Tests.{replaced, eqb-iff, Chosen, chosen, never, bad-first, good-first, good-later}
+use Rattle.whole.proofs.Tests.{replaced, either, eqb-iff, Chosen, chosen, never, bad-first, good-first, good-later}
 use Rattle.shapes.specs.declared.limits.Limits.{Limits}
 use Rattle.shapes.specs.Spans.{isSpanSound, SpanSound}
 use Rattle.shapes.proofs.Choices.{or-stopped, or-after, or-before}
@@ -18,12 +18,14 @@ use Rattle.scanline.specs.Spans.{newSpan, tryExtended}
 use Rattle.scanline.specs.Answers.{spanRefusal}
 use Rattle.scanline.proofs.Answers.{span-six, span-seven, span-none}
 use Rattle.line_join.specs.Caps.{JoinNear}
+use Rattle.line_join.specs.Words.{BendTold}
 use Rattle.coordinates.specs.Refusal.{routeRefusal, Accepted}
 use Rattle.coordinates.specs.Neighbours.{Doubled}
 use Rattle.coordinates.proofs.Laws.{refused-most, accepted-exactly, doubled-refused}
-use Rattle.route_joins.specs.Joins.{joinAt, joinCount, areJoinsNear}
+use Rattle.route_joins.specs.Joins.{joinAt, joinCount, areJoinsNear, routeBend}
 use Rattle.route_joins.proofs.Near.{joins-exactly}
 use Rattle.route_joins.proofs.Walks.{refusal-told}
+use Rattle.route_joins.proofs.Bends.{route-bend}
 use Rattle.scanline_intersections.specs.declared.Intersections.{Intersections}
 use Rattle.scanline_intersections.specs.declared.Merged.{Merged}
 use Rattle.scanline_intersections.specs.Segments.{spansFrom}
@@ -31,16 +33,15 @@ use Rattle.scanline_intersections.specs.Merging.{walkOf, mergedNext, nex
 use Rattle.scanline_intersections.specs.Answers.{startRefusal, polylineStart, nextRefusal, nextAnswer}
 
 -- what is merged is no refusal
-merged-by : (t : Bool) (a b : Merged) → a .refusal ≡ 0 → b .refusal ≡ 0 → cond t a b .refusal ≡ 0
-merged-by true a b p q = p
-merged-by false a b p q = q
+abbrev Free : Merged → Type 0
+Free m = (m .refusal ≡ 0) × (m .bend ≡ 0)
 
-merged-none : (k : ℕ) (w : ℤ) (s : Span) (os : List Span) → mergedNext k w s os .refusal ≡ 0
+merged-none : (k : ℕ) (w : ℤ) (s : Span) (os : List Span) → Free (mergedNext k w s os)
 unfolding mergedNext
-merged-none k w s [] = refl
-merged-none k w s (o ∷ os) = merged-by (tryExtended s o .joined) _ _ (merged-none (k + 1) w (tryExtended s o .span) os) refl
+merged-none k w s [] = (refl, refl)
+merged-none k w s (o ∷ os) = either Free (tryExtended s o .joined) (λ e. merged-none (k + 1) w (tryExtended s o .span) os) (λ e. (refl, refl))
 
-merged-fine : (cs : List ℤ) (walk : Intersections) → nextMerged cs walk .refusal ≡ 0
+merged-fine : (cs : List ℤ) (walk : Intersections) → Free (nextMerged cs walk)
 unfolding nextMerged
 merged-fine cs walk = merged-none (walk .place) (walk .width) (walk .span) (spansFrom cs (walk .width) (walk .span .row) (walk .place))
 
@@ -142,13 +143,32 @@ module _ (limits : Limits) (cs : List ℤ) where
     pub next-sound : (nextRefusal limits cs walk ≡ 0) ↔ (fine w × (JoinsNear w × (Within (walk .span .row) (limits .corner) × SpanSound (limits .corner) (walk .span))))
     next-sound = later-near (λ e. omega arith) (λ h no. no h) (span-none (limits .corner) (walk .span))
 
-    -- with no refusal what is merged next, else all 0 but the number, and the walk as it was
+    -- with no refusal what is merged next, else all 0 but the number and what comes with 5, and the walk as it was
     pub next-chosen : Chosen (nextRefusal limits cs walk ≡ 0) (nextAnswer limits cs walk)
-        (nextMerged cs walk) (record { refusal = nextRefusal limits cs walk; found = false; span = newSpan (pos 0); walk = walk })
+        (nextMerged cs walk) (record { refusal = nextRefusal limits cs walk; bend = routeBend limits false cs w; found = false; span = newSpan (pos 0); walk = walk })
     unfolding nextAnswer
     next-chosen = chosen (eqb (nextRefusal limits cs walk) 0) _ _ (eqb-iff (nextRefusal limits cs walk) 0)
 
     -- the answer tells it
     pub next-refusal : nextAnswer limits cs walk .refusal ≡ nextRefusal limits cs walk
     unfolding nextAnswer
-    next-refusal = refusal-told {A = Merged} (λ r. r .refusal) (nextRefusal limits cs walk) (merged-fine cs walk) refl
+    next-refusal = refusal-told {A = Merged} (λ r. r .refusal) (nextRefusal limits cs walk) (merged-fine cs walk .0) refl
+
+    -- and the position that comes with 5: of the first join of the route that has a corner outside
+    told : BendTold (list w ≡ 0) (limits .corner) (joinAt false cs w) (joinCount cs) (nextRefusal limits cs walk) (routeBend limits false cs w)
+    unfolding nextRefusal
+    told =
+        route-bend limits false cs w
+        (or-after (list w) rest (other w (omega arith) (λ e. omega arith)) (good-first near (λ e. e, λ e. e) (span-never (omega arith) (λ e. omega arith) (λ e. omega arith))))
+
+    bend-is : nextAnswer limits cs walk .bend ≡ routeBend limits false cs w
+    unfolding nextAnswer
+    bend-is = by (eqb (nextRefusal limits cs walk) 0) refl
+      where
+        by : (t : Bool) → eqb (nextRefusal limits cs walk) 0 ≡ t
+            → cond t (nextMerged cs walk) (record { refusal = nextRefusal limits cs walk; bend = routeBend limits false cs w; found = false; span = newSpan (pos 0); walk = walk }) .bend ≡ routeBend limits false cs w
+        by true e = merged-fine cs walk .1 ∙ sym (told .other (λ five. omega (arith, five, eqb-iff (nextRefusal limits cs walk) 0 .0 e)))
+        by false e = refl
+
+    pub next-bend : BendTold (list w ≡ 0) (limits .corner) (joinAt false cs w) (joinCount cs) (nextAnswer limits cs walk .refusal) (nextAnswer limits cs walk .bend)
+    next-bend = rw (next-refusal, bend-is) told

@@ -42,7 +42,7 @@ module _ (cs : List ℤ) (w row : ℤ) (k : ℕ) where
 
     -- it is not, and what is gathered is handed out
     pub merged-stop : k < openCount cs → tryExtended s (spanAt cs w row k) .joined ≡ false
-        → mergedNext k w s (spansFrom cs w row k) ≡ record { refusal = 0; found = true; span = s; walk = walkOf (k + 1) w (spanAt cs w row k) }
+        → mergedNext k w s (spansFrom cs w row k) ≡ record { refusal = 0; bend = 0; found = true; span = s; walk = walkOf (k + 1) w (spanAt cs w row k) }
     unfolding mergedNext
     merged-stop h e = rw (spans-turn h, e)
 

@@ -13,14 +13,17 @@ use Rattle.shapes.specs.declared.limits.Limits.{Limits}
 use Rattle.shapes.specs.declared.Offset.the-variants.{None}
 use Rattle.scanline.specs.Spans.{newSpan}
 use Rattle.thick_segment.specs.declared.Segment.{Segment}
+use Rattle.line_join.specs.Words.{BendTold}
 use Rattle.thick_segment.specs.Segments.{SegmentNear}
+use Rattle.thick_segment.specs.Words.{joinsIn}
 use Rattle.coordinates.specs.Points.{pointsOf}
 use Rattle.coordinates.specs.Refusal.{routeRefusal, Accepted}
 use Rattle.coordinates.proofs.Laws.{accepted-exactly}
 use Rattle.route_joins.specs.declared.Step.the-variants.{Drawn}
-use Rattle.route_joins.specs.Joins.{openSegment, openCount}
+use Rattle.route_joins.specs.Joins.{endPlace, standing, openSegment, openCount}
 use Rattle.route_joins.specs.Steps.{stepValues, afterSteps, StepTold, SegmentBySegment}
-use Rattle.route_joins.proofs.Walks.{place-kept, route-told, route-in-turn, route-five, route-other}
+use Rattle.route_joins.proofs.Walks.{place-kept, route-told, route-in-turn, route-five, route-other, route-step-bend, route-step-positions}
+use Rattle.route_joins.proofs.Open.{segment-stands}
 use Rattle.thick_segment_iter.specs.Walks.{openStep, afterOpen}
 use Rattle.scanline_intersections.specs.declared.Intersections.{Intersections}
 use Rattle.scanline_intersections.specs.Merging.{walkOf}
@@ -39,10 +42,10 @@ module _ (limits : Limits) (cs : List ℤ) (w row : ℤ) (accepted : Accepted (l
   unfolding polylineStep afterPolyline
   segment-by-segment = route-in-turn limits false cs w None (λ p. walkOf p w (newSpan row)) accepted (λ p. refl) (λ p. refl) begun
 
-  -- the k-th step answers the k-th segment that the Rust's `next_segment` gives
+  -- the k-th step answers the k-th segment that the Rust's `next_segment` gives, with the positions k and k + 1
   pub steps-drawn : (d : Segment) (k : ℕ) → k < openCount cs → ((j : ℕ) → j < k + 1 → SegmentNear (limits .corner) (openSegment cs w j))
-      → polylineStep limits cs (afterSteps (afterPolyline limits cs) (polylineStart limits cs w row .walk) k) ≡ stepValues (Drawn (getD (polylineSegments w (pointsOf cs)) k d))
-  steps-drawn d k h f = segment-by-segment .drawn k h f ∙ ap (λ s. stepValues (Drawn s)) (sym (polyline-at cs w d k h))
+      → polylineStep limits cs (afterSteps (afterPolyline limits cs) (polylineStart limits cs w row .walk) k) ≡ stepValues (Drawn (standing k (k + 1) (getD (polylineSegments w (pointsOf cs)) k d)))
+  steps-drawn d k h f = segment-by-segment .drawn k h f ∙ ap (λ s. stepValues (Drawn s)) (sym (segment-stands cs w k) ∙ ap (standing k (k + 1)) (sym (polyline-at cs w d k h)))
 
 module _ (limits : Limits) (cs : List ℤ) (walk : Intersections) where
   -- ---- the open walk at the same place with the same width answers the same, whatever the list, and goes to the same place
@@ -76,3 +79,14 @@ module _ (limits : Limits) (cs : List ℤ) (walk : Intersections) where
       ↔ (Accepted (limits .point) false cs (walk .width) × ((walk .place < openCount cs) × (SegmentNear (limits .corner) (openSegment cs (walk .width) (walk .place)) → ⊥)))
   unfolding polylineStep
   step-5 = replaced (accepted-exactly (limits .point) false cs (walk .width)) (route-five limits false cs (walk .width) None (walk .place))
+
+  -- with 5 comes the position of the first join of the segment that has such a corner
+  pub step-bend : let v = polylineStep limits cs walk in
+      BendTold ((routeRefusal (limits .point) false cs (walk .width) ≡ 0) × (walk .place < openCount cs)) (limits .corner) (joinsIn (openSegment cs (walk .width) (walk .place))) 2 (v .refusal) (v .bend)
+  unfolding polylineStep
+  step-bend = route-step-bend limits false cs (walk .width) None (walk .place)
+
+  -- the joins that a step hands out have the segment's place and the next one for their positions
+  pub step-positions : let v = polylineStep limits cs walk in v .found ≡ 1 → (v .start .position ≡ walk .place) × (v .end .position ≡ walk .place + 1)
+  unfolding polylineStep endPlace
+  step-positions = route-step-positions limits false cs (walk .width) None (walk .place)

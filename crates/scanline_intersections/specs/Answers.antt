@@ -1,4 +1,5 @@
--- The entries' answers, for any limits. A refusal has 0 in every other field, but the walk handed in comes back as it was.
+-- The entries' answers, for any limits. A refusal has 0 in every other field, but with 5 comes a position, and the walk handed in comes back
+-- as it was.
 use mathlib.Core.Bool.{false, cond}
 use mathlib.Core.List.{List}
 use Prim.Native.Nat.{ℕ}
@@ -11,11 +12,12 @@ use Rattle.shapes.specs.Refusals.{cornerRefused, rowRefused, orElse}
 use Rattle.scanline.specs.Spans.{newSpan}
 use Rattle.scanline.specs.Answers.{spanRefusal}
 use Rattle.coordinates.specs.Refusal.{routeRefusal}
-use Rattle.route_joins.specs.Joins.{areJoinsNear}
+use Rattle.route_joins.specs.Joins.{areJoinsNear, routeBend}
 use Rattle.route_joins.specs.Steps.{StepValues, routeStep, placeFrom}
 use Rattle.scanline_intersections.specs.declared.Intersections.{Intersections}
 use Rattle.scanline_intersections.specs.declared.Started.{Started}
 use Rattle.scanline_intersections.specs.declared.Merged.{Merged}
+use Rattle.scanline_intersections.specs.declared.Refusal.{Refusal}
 use Rattle.scanline_intersections.specs.Merging.{walkOf, nextMerged}
 
 -- ---- start: what the list and the width are refused with, then 6, a row outside
@@ -44,7 +46,11 @@ nextRefusal limits cs walk =
     orElse (routeRefusal (limits .point) false cs (walk .width))
     (cond (areJoinsNear (limits .corner) false cs (walk .width)) (spanRefusal (limits .corner) (walk .span)) cornerRefused)
 
+-- with the position that comes with 5
+abbrev pub refusedNext : Limits → List ℤ → Intersections → Refusal
+refusedNext limits cs walk = record { number = nextRefusal limits cs walk; bend = routeBend limits false cs (walk .width) }
+
 unfoldable pub nextAnswer : Limits → List ℤ → Intersections → Merged
 nextAnswer limits cs walk =
     let n = nextRefusal limits cs walk in
-    cond (eqb n 0) (nextMerged cs walk) (record { refusal = n; found = false; span = newSpan (pos 0); walk = walk })
+    cond (eqb n 0) (nextMerged cs walk) (record { refusal = n; bend = routeBend limits false cs (walk .width); found = false; span = newSpan (pos 0); walk = walk })

@@ -16,10 +16,10 @@ walkOf place w s = record { place = place; width = w; span = s }
 
 -- s is gathered, and the spans from the place on are left
 unfoldable pub mergedNext : ℕ → ℤ → Span → List Span → Merged
-mergedNext k w s [] = record { refusal = 0; found = tryTaken s .taken; span = tryTaken s .span; walk = walkOf k w (tryTaken s .rest) }
+mergedNext k w s [] = record { refusal = 0; bend = 0; found = tryTaken s .taken; span = tryTaken s .span; walk = walkOf k w (tryTaken s .rest) }
 mergedNext k w s (o ∷ os) =
     cond (tryExtended s o .joined) (mergedNext (k + 1) w (tryExtended s o .span) os)
-    (record { refusal = 0; found = true; span = s; walk = walkOf (k + 1) w o })
+    (record { refusal = 0; bend = 0; found = true; span = s; walk = walkOf (k + 1) w o })
 
 unfoldable pub nextMerged : List ℤ → Intersections → Merged
 nextMerged cs walk = mergedNext (walk .place) (walk .width) (walk .span) (spansFrom cs (walk .width) (walk .span .row) (walk .place))

@@ -27,6 +27,7 @@ fn hand_out(place: usize, width: i64, gathered: Span) -> Merged
     let rest = handed.rest;
     Merged {
         refusal: 0,
+        bend: 0,
         found,
         span,
         walk: Intersections {
@@ -60,6 +61,7 @@ pub fn merge(coordinates: &[i64], walk: Intersections) -> Merged
         } else {
             return Merged {
                 refusal: 0,
+                bend: 0,
                 found: true,
                 span: gathered,
                 walk: Intersections {

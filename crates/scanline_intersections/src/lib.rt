@@ -3,14 +3,15 @@
 ghost use mathlib.Core.Path.{_≡_};
 ghost use Rattle.route_joins.specs.Steps.{stepValues};
 ghost use Rattle.shapes.specs.Limits.{panel as panelLimits};
-ghost use Rattle.scanline_intersections.specs.Answers.{startRefusal, polylineStart, polylineStep, afterPolyline, nextRefusal, nextAnswer};
+ghost use Rattle.scanline_intersections.specs.Answers.{startRefusal, polylineStart, polylineStep, afterPolyline, refusedNext, nextAnswer};
 
 pub mod inner; // inner.rt: the next merged span, without the tests
 
 use coordinates::refusal;
 use inner::merge;
 use route_joins::Step;
-use route_joins::inner::are_joins_near;
+use route_joins::inner::join_count;
+use route_joins::inner::near_joins;
 use route_joins::inner::step_at;
 use scanline::try_take;
 use shapes::Offset;
@@ -43,12 +44,19 @@ pub struct Stepped {
 }
 
 /// Whether there is one more merged span, that span (else 0, 0 to 0), and the walk after it; or the refusal with false, zeros, and
-/// the walk handed in as it was.
+/// the walk handed in as it was. `bend` is the position that comes with 5, else 0.
 pub struct Merged {
     pub refusal: u64,
+    pub bend: usize,
     pub found: bool,
     pub span: Span,
     pub walk: Intersections,
+}
+
+/// What a walk is refused with, 0 where it is not, and the position that comes with 5.
+struct Refusal {
+    number: u64,
+    bend: usize,
 }
 
 /// A walk along the segments of an open route on a row. The list and the width are refused with 1 to 4 and 12; then a row outside
@@ -86,8 +94,8 @@ pub fn start(coordinates: &[i64], width: i64, row: i64) -> Started
 }
 
 /// The segment at the walk's place, and the walk one place further; or the end, past the last segment. The list and the walk's
-/// width are refused with 1 to 4 and 12; then a segment of which a join has a corner beyond 4,095 with 5: the walk then stays
-/// where it is. The gathered span and its row are not looked at.
+/// width are refused with 1 to 4 and 12; then a segment of which a join has a corner beyond 4,095 with 5, at the position of the
+/// first that has: the walk then stays where it is. The gathered span and its row are not looked at.
 pub fn next_segment(coordinates: &[i64], walk: Intersections) -> Stepped
     ensures answers { λ r. ⌜ stepValues (r .step) ≡ polylineStep panelLimits (now (coordinates .entry)) walk ⌝ }
     ensures moves { λ r. ⌜ r .walk ≡ afterPolyline panelLimits (now (coordinates .entry)) walk ⌝ }
@@ -110,17 +118,18 @@ pub fn next_segment(coordinates: &[i64], walk: Intersections) -> Stepped
 
 /// The next merged span: the spans of the segments left are gathered while each overlaps or is adjacent to what is gathered so far;
 /// no span is handed out that is empty. The list and the walk's width are refused with 1 to 4 and 12; then a route of which some
-/// join has a corner beyond 4,095 with 5; then a row of the walk's span outside 4,095 with 6; then a column of that span outside
-/// with 7.
+/// join has a corner beyond 4,095 with 5, at the position of the first that has; then a row of the walk's span outside 4,095 with
+/// 6; then a column of that span outside with 7.
 pub fn next(coordinates: &[i64], walk: Intersections) -> Merged
     ensures { λ r. ⌜ r ≡ nextAnswer panelLimits (now (coordinates .entry)) walk ⌝ }
 {
     let refusal = next_refusal(coordinates, walk);
-    if refusal == 0 {
+    if refusal.number == 0 {
         return merge(coordinates, walk);
     }
     Merged {
-        refusal,
+        refusal: refusal.number,
+        bend: refusal.bend,
         found: false,
         span: Span {
             row: 0,
@@ -142,19 +151,26 @@ fn start_refusal(coordinates: &[i64], width: i64, row: i64) -> u64
     if within(row, limits::CORNER) { 0 } else { ROW }
 }
 
-/// The refusal of a walk whose next merged span is asked for, 0 where there is none: 1 to 4, 12, then 5, then 6 and 7, with
-/// which `try_take` refuses the walk's span.
-fn next_refusal(coordinates: &[i64], walk: Intersections) -> u64
-    ensures { λ r. ⌜ r ≡ nextRefusal panelLimits (now (coordinates .entry)) walk ⌝ }
+/// The refusal of a walk whose next merged span is asked for: 1 to 4, 12, then 5, then 6 and 7, with which `try_take` refuses the
+/// walk's span.
+fn next_refusal(coordinates: &[i64], walk: Intersections) -> Refusal
+    ensures { λ r. ⌜ r ≡ refusedNext panelLimits (now (coordinates .entry)) walk ⌝ }
 {
     let width = walk.width;
     let number = refusal(coordinates, width, false);
     if number != 0 {
-        return number;
+        return Refusal { number, bend: 0 };
     }
-    if are_joins_near(coordinates, width, false, limits::CORNER) {
+    let near = near_joins(coordinates, width, false, limits::CORNER);
+    if near == join_count(coordinates) {
         let span = walk.span;
-        return try_take(span).refusal;
+        return Refusal {
+            number: try_take(span).refusal,
+            bend: 0,
+        };
     }
-    CORNER
+    Refusal {
+        number: CORNER,
+        bend: near,
+    }
 }

@@ -38,6 +38,7 @@ use writing::say_count;
 use writing::say_next;
 use writing::say_number;
 use writing::say_refused;
+use writing::say_refused_at;
 
 fn main() {
     ask_miters();
@@ -123,7 +124,7 @@ fn ask_segment(coordinates: &[i64], walk: Walk) -> Walk {
     match answered {
         Step::Drawn(segment) => say_rows(segment),
         Step::End => say(b"none"),
-        Step::Refused(number) => say_refused(number),
+        Step::Refused(number, bend) => say_refused_at(number, bend),
     }
     say(b"\n");
     stepped.walk
@@ -227,7 +228,7 @@ fn ask_zigzag(zigzag: &[i64]) {
     ask_row(zigzag, 1, 2, &mut more);
     say_zigzag(zigzag);
     say(b"all rows ");
-    say_refusal(route::refusal(zigzag, 1, false));
+    say_refusal(route::refusal(zigzag, 1, false).refusal);
     say(b"\n");
 }
 
@@ -344,7 +345,7 @@ fn say_fate(joined: Joined) {
 fn say_joined(joined: Joined) {
     match joined {
         Joined::Made(join) => say_join(join),
-        Joined::Refused(number) => say_refused(number),
+        Joined::Refused(number, bend) => say_refused_at(number, bend),
     }
 }
 

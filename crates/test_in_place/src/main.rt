@@ -1,5 +1,5 @@
 //! Steps sample routes in place, from the first segment to the end and once more. A line tells what a step answers, behind the place
-//! that it leaves its walk at: of a segment the right edge, the left edge, the start and end of its span on one row, and the origins of its two joins. The
+//! that it leaves its walk at: of a segment the right edge, the left edge, the start and end of its span on one row, and of each of its two joins the origins and the position. The
 //! spans of a route go to a board of that row, whose runs are then listed to twelve numbers and to four records. The last three walks are refused.
 mod owners; // owners.rt: owners that lend what is worked on in place
 
@@ -14,7 +14,7 @@ use thick_segment::Segment;
 use writing::say;
 use writing::say_count;
 use writing::say_next;
-use writing::say_refused;
+use writing::say_refused_at;
 
 // Shows a segment, and offers its span on the board's row to the board.
 fn draw(segment: Segment, board: Board) -> Board {
@@ -40,8 +40,8 @@ fn show(place: usize, step: Step, board: Board) -> Board {
             say(b"end");
             board
         }
-        Step::Refused(number) => {
-            say_refused(number);
+        Step::Refused(number, bend) => {
+            say_refused_at(number, bend);
             board
         }
     };

@@ -10,11 +10,14 @@ use line_join::trace::no_crossings;
 use shapes::Divisions;
 use shapes::Line;
 use shapes::Side;
+use test_numbers::number_at;
 use test_text::after;
 use test_text::line_at;
 use test_text::say_point;
 use whole::Division;
+use whole::inner::size;
 use writing::say;
+use writing::say_count;
 
 /// A join that was read, and the place of the number after it.
 pub struct JoinAt {
@@ -22,13 +25,14 @@ pub struct JoinAt {
     pub next: usize,
 }
 
-/// The join at a place: a digit for its kind, and eight coordinates, a byte between each two. The corners at which the line
-/// before it ends come first, left before right; no corner is told to be a crossing.
+/// The join at a place: a digit for its kind, its position, and eight coordinates, a byte between each two. The corners at which
+/// the line before it ends come first, left before right; no corner is told to be a crossing. A position has no sign.
 pub fn join_at(s: &[u8], at: usize) -> JoinAt
     ensures { λ r. ⌜ r ≡ joinAt (now (s .entry)) at ⌝ }
 {
     let kind = kind_of(test_numbers::byte_at(s, at));
-    let first = line_at(s, after(after(at)));
+    let position = number_at(s, after(after(at)));
+    let first = line_at(s, after(position.next));
     let second = line_at(s, first.next);
     let ending = first.line;
     let starting = second.line;
@@ -38,6 +42,7 @@ pub fn join_at(s: &[u8], at: usize) -> JoinAt
             ending: corners_of(ending),
             starting: corners_of(starting),
             origins: no_crossings(),
+            position: size(position.value) as usize,
         },
         next: second.next,
     }
@@ -68,7 +73,7 @@ fn kind_of(digit: u8) -> Kind
     }
 }
 
-/// Writes a join: its kind in words, its eight coordinates, and the origins of its left and of its right corners.
+/// Writes a join: its kind in words, its eight coordinates, the origins of its left and of its right corners, and its position.
 pub fn say_join(join: Join) {
     let kind = join.kind;
     let ending = join.ending;
@@ -79,13 +84,15 @@ pub fn say_join(join: Join) {
     say_origins(join);
 }
 
-/// Writes the origins of the left and of the right corners of a join.
+/// Writes the origins of the left and of the right corners of a join, and its position.
 pub fn say_origins(join: Join) {
     let origins = join.origins;
     let left = origins.left;
     let right = origins.right;
     say_origin(left);
     say_origin(right);
+    say(b" ");
+    say_count(join.position as u64);
 }
 
 fn say_origin(origin: Origin) {

@@ -19,7 +19,8 @@ use test_text::point_at;
 use test_text::say_bool;
 use test_text::say_line;
 use writing::say;
-use writing::say_refused;
+use writing::say_count;
+use writing::say_refused_at;
 
 pub fn answer(kind: u8, questions: &[u8], at: usize) {
     match kind {
@@ -60,17 +61,24 @@ fn answer_lines(questions: &[u8], at: usize) {
     say_lines(join);
 }
 
-/// The three lines of a join, each entry by itself.
+/// The three lines of a join, each entry by itself, and all fields of what `is_degenerate` answers.
 fn answer_each(questions: &[u8], at: usize) {
     let asked = join_at(questions, at);
     let join = asked.join;
     say_filled(join);
+    say(b" | ");
+    let tested = is_degenerate(join);
+    say_count(tested.refusal);
+    say(b" ");
+    say_count(tested.bend as u64);
+    say(b" ");
+    say_bool(tested.degenerate);
 }
 
 fn say_joined(joined: Joined) {
     match joined {
         Joined::Made(join) => say_join(join),
-        Joined::Refused(number) => say_refused(number),
+        Joined::Refused(number, bend) => say_refused_at(number, bend),
     }
 }
 
@@ -78,7 +86,7 @@ fn say_joined(joined: Joined) {
 fn say_lines(join: Join) {
     let tested = is_degenerate(join);
     if tested.refusal != 0 {
-        say_refused(tested.refusal);
+        say_refused_at(tested.refusal, tested.bend);
         return;
     }
     say_filled(join);
@@ -99,7 +107,7 @@ fn say_filler(filler: Filler) {
     match filler {
         Filler::Filled(line) => say_line(line),
         Filler::Nothing => say(b"none"),
-        Filler::Refused(number) => say_refused(number),
+        Filler::Refused(number, bend) => say_refused_at(number, bend),
     }
 }
 
@@ -115,6 +123,6 @@ fn say_caps(caps: Caps) {
             say(b" ");
             say_line(second);
         }
-        Caps::Refused(number) => say_refused(number),
+        Caps::Refused(number, bend) => say_refused_at(number, bend),
     }
 }

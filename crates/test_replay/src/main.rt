@@ -61,7 +61,7 @@ fn answer_kind(kind: u8, questions: &[u8], at: usize) {
     if is_among(kind, b"azjfg ") {
         return joins::answer(kind, questions, at);
     }
-    if is_among(kind, b"kqrmuy ") {
+    if is_among(kind, b"kqrmuyb ") {
         return segments::answer(kind, questions, at);
     }
     if is_among(kind, b"OCNMovw ") {

@@ -1,5 +1,8 @@
 //! Questions on the rows of a route.
+use crate::segments::say_bend;
 use route::RowRange;
+use route::Verdict;
+use route::refusal;
 use route::row;
 use route::rows;
 use test_text::say_bool;
@@ -8,7 +11,7 @@ use writing::say;
 use writing::say_count;
 use writing::say_next;
 
-/// All fields of what `rows` and `row` answer of the route, open and closed.
+/// All fields of what `rows`, `row` and `refusal` answer of the route, open and closed.
 pub fn say_rows(coordinates: &[i64], width: i64, at: i64) {
     say_range(rows(coordinates, width, false));
     say(b" | ");
@@ -17,10 +20,18 @@ pub fn say_rows(coordinates: &[i64], width: i64, at: i64) {
     say_row(coordinates, width, false, at);
     say(b" | ");
     say_row(coordinates, width, true, at);
+    say(b" | ");
+    say_verdict(refusal(coordinates, width, false));
+    say(b" | ");
+    say_verdict(refusal(coordinates, width, true));
+}
+
+fn say_verdict(verdict: Verdict) {
+    say_bend(verdict.refusal, verdict.bend);
 }
 
 fn say_range(range: RowRange) {
-    say_count(range.refusal);
+    say_bend(range.refusal, range.bend);
     say(b" ");
     say_bool(range.some);
     say_next(range.first);
@@ -35,7 +46,7 @@ fn say_row(coordinates: &[i64], width: i64, closed: bool, at: i64) {
 
 fn say_row_by(coordinates: &[i64], width: i64, closed: bool, at: i64, out: &mut [i64]) {
     let listed = row(coordinates, width, closed, at, &mut *out);
-    say_count(listed.refusal);
+    say_bend(listed.refusal, listed.bend);
     say(b" ");
     say_count(listed.count as u64);
     say_next(listed.total);

@@ -30,6 +30,7 @@ use writing::say_count;
 use writing::say_next;
 use writing::say_number;
 use writing::say_refused;
+use writing::say_refused_at;
 
 /// A segment that was read, and the place of the number after it.
 struct SegmentAt {
@@ -51,6 +52,7 @@ pub fn answer(kind: u8, questions: &[u8], at: usize) {
         b'm' => answer_meet(questions, at),
         b'u' => answer_extend(questions, at),
         b'y' => answer_take(questions, at),
+        b'b' => answer_bends(questions, at),
         _ => {}
     }
 }
@@ -72,7 +74,19 @@ fn answer_row(questions: &[u8], at: usize) {
     let segment = asked.segment;
     let row = test_numbers::number_at(questions, asked.next);
     let met = span(segment, row.value);
-    say_span(met.refusal, met.span);
+    if met.refusal != 0 {
+        say_refused_at(met.refusal, met.bend);
+        return;
+    }
+    say_span(0, met.span);
+}
+
+/// What each entry refuses a segment and a row with, and the bend that it names.
+fn answer_bends(questions: &[u8], at: usize) {
+    let asked = segment_at(questions, at);
+    let segment = asked.segment;
+    let row = test_numbers::number_at(questions, asked.next);
+    say_bends(segment, row.value);
 }
 
 fn answer_meet(questions: &[u8], at: usize) {
@@ -136,7 +150,7 @@ fn span_at(questions: &[u8], at: usize) -> SpanAt {
 fn say_segment(segment: Segment) {
     let tested = is_skeleton(segment);
     if tested.refusal != 0 {
-        say_refused(tested.refusal);
+        say_refused_at(tested.refusal, tested.bend);
         return;
     }
     say_bool(tested.skeleton);
@@ -148,9 +162,36 @@ fn say_segment(segment: Segment) {
     say_perimeter(segment);
 }
 
+fn say_bends(segment: Segment, row: i64) {
+    let tested = is_skeleton(segment);
+    say_bend(tested.refusal, tested.bend);
+    say(b" | ");
+    let edged = edges(segment);
+    say_bend(edged.refusal, edged.bend);
+    say(b" | ");
+    let boxed = edges_bounding_box(segment);
+    say_bend(boxed.refusal, boxed.bend);
+    say(b" | ");
+    let counted = perimeter_count(segment);
+    say_bend(counted.refusal, counted.bend);
+    say(b" | ");
+    let drawn = drawn_rows(segment);
+    say_bend(drawn.refusal, drawn.bend);
+    say(b" | ");
+    let met = span(segment, row);
+    say_bend(met.refusal, met.bend);
+}
+
+/// A refusal, 0 where there is none, and the bend.
+pub fn say_bend(refusal: u64, bend: usize) {
+    say_count(refusal);
+    say(b" ");
+    say_count(bend as u64);
+}
+
 fn say_edges(edged: Edged) {
     if edged.refusal != 0 {
-        say_refused(edged.refusal);
+        say_refused_at(edged.refusal, edged.bend);
         return;
     }
     let pair = edged.edges;
@@ -164,7 +205,7 @@ fn say_edges(edged: Edged) {
 /// The top left corner, and the width and the height in pixels.
 fn say_box(boxed: Boxed) {
     if boxed.refusal != 0 {
-        say_refused(boxed.refusal);
+        say_refused_at(boxed.refusal, boxed.bend);
         return;
     }
     let rectangle = boxed.rectangle;
@@ -178,7 +219,7 @@ fn say_box(boxed: Boxed) {
 /// The first and the last row of the lines that are drawn.
 fn say_drawn_rows(drawn: DrawnRows) {
     if drawn.refusal != 0 {
-        say_refused(drawn.refusal);
+        say_refused_at(drawn.refusal, drawn.bend);
         return;
     }
     let rows = drawn.rows;
@@ -200,7 +241,7 @@ fn pixels(first: i64, last: i64) -> i64 {
 fn say_perimeter(segment: Segment) {
     let counted = perimeter_count(segment);
     if counted.refusal != 0 {
-        say_refused(counted.refusal);
+        say_refused_at(counted.refusal, counted.bend);
         return;
     }
     say_count(counted.count as u64);

@@ -1,5 +1,6 @@
 //! Questions on walks along a route, and on its merged spans.
 use crate::rows::say_rows;
+use crate::segments::say_bend;
 use closed_thick_segment_iter::Walk as ClosedWalk;
 use route_joins::Step;
 use scanline_intersections::Intersections;
@@ -19,6 +20,7 @@ use writing::say_count;
 use writing::say_next;
 use writing::say_number;
 use writing::say_refused;
+use writing::say_refused_at;
 
 /// What stands before the list of coordinates: how many there are, and the place of the first.
 struct Asked {
@@ -210,7 +212,8 @@ fn say_refusal(number: u64) -> bool {
 
 /// Writes the next merged span; whether there may be more.
 fn say_span(merged: Merged) -> bool {
-    if say_refusal(merged.refusal) {
+    if merged.refusal != 0 {
+        say_refused_at(merged.refusal, merged.bend);
         return false;
     }
     if merged.found {
@@ -235,8 +238,8 @@ fn say_step(step: Step) -> bool {
             say(b"end");
             false
         }
-        Step::Refused(number) => {
-            say_refused(number);
+        Step::Refused(number, bend) => {
+            say_refused_at(number, bend);
             false
         }
     }
@@ -296,7 +299,7 @@ fn say_next_of(coordinates: &[i64], width: i64, row: i64) {
         },
     };
     let merged = scanline_intersections::next(coordinates, asked);
-    say_count(merged.refusal);
+    say_bend(merged.refusal, merged.bend);
     say(b" ");
     say_bool(merged.found);
     say_fields(merged.span);

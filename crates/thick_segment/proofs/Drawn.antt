@@ -46,7 +46,7 @@ use Rattle.thick_segment.specs.Segments.{SegmentNear, topOf, bottomOf, i
 pub caps-most : (k : Caps) → length (capLines k) ≤ 2
 caps-most (One l) = lit≤ tt
 caps-most (Two l m) = lit≤ tt
-caps-most (Refused n) = lit≤ tt
+caps-most (Refused n b) = lit≤ tt
 
 drawn-by : (s : Segment) (t : Bool) → isSkeleton s ≡ t → length (drawn s) ≤ 6
 unfolding drawn

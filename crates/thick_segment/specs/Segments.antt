@@ -29,6 +29,10 @@ pub record SegmentNear (k : ℕ) (s : Segment) : Type 0 where
 unfoldable pub isSegmentNear : ℕ → Segment → Bool
 isSegmentNear k s = isJoinNear k (s .start) && isJoinNear k (s .end)
 
+-- 02, K9: the position of the first of its joins that has a corner beyond k, the start join before the end join; 0 where neither has
+unfoldable pub farBend : ℕ → Segment → ℕ
+farBend k s = cond (isJoinNear k (s .start)) (cond (isJoinNear k (s .end)) 0 (s .end .position)) (s .start .position)
+
 -- ---- how far a segment goes down the screen
 
 -- the lesser and the greater row of two corners
@@ -81,7 +85,7 @@ boundingBox s = cond (isSkeleton s) (boxOf (edgesOf s .left)) (union (boxOf (edg
 abbrev pub capLines : Caps → List Line
 capLines (One l) = l ∷ []
 capLines (Two l m) = l ∷ m ∷ []
-capLines (Refused n) = []
+capLines (Refused n b) = []
 
 -- of a skeleton the right edge, else the caps of the start, those of the end, and the edges: six at most
 unfoldable pub drawn : Segment → List Line

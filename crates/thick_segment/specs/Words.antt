@@ -1,7 +1,7 @@
 -- What 01 says of segments in words: the span is that of the points of the lines that are drawn; and, for 02's K8, which rows have such a point.
 use mathlib.Core.Path.{_≡_}
 use mathlib.Core.List.{List, [], _∷_, _++_, List·Memᴰ}
-use Prim.Native.Nat.{ℕ}
+use Prim.Native.Nat.{ℕ, zero, suc}
 use lib.IntN.{ℤ}
 use lib.Signed.{_≤ℤ_}
 use Rattle.whole.specs.Number.{Within}
@@ -9,10 +9,16 @@ use Rattle.shapes.specs.declared.Point.{Point}
 use Rattle.shapes.specs.declared.Line.{Line}
 use Rattle.shapes.specs.Shape.{Near}
 use Rattle.bresenham.specs.Points.{linePoints}
+use Rattle.line_join.specs.declared.Join.{Join}
 use Rattle.thick_segment.specs.declared.Segment.{Segment}
 use Rattle.thick_segment.specs.declared.Rectangle.{Rectangle}
 use Rattle.thick_segment.specs.declared.Rows.{Rows}
 use Rattle.thick_segment.specs.Segments.{drawn}
+
+-- the joins in the order of a walk
+abbrev pub joinsIn : Segment → ℕ → Join
+joinsIn s zero = s .start
+joinsIn s (suc i) = s .end
 
 unfoldable pub pointsOf : List Line → List Point
 pointsOf [] = []

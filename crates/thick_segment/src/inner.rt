@@ -4,7 +4,7 @@ ghost use Prim.Native.Nat.{_≤_, _<_};
 ghost use lib.ListN.{length, take, set};
 ghost use Rattle.shapes.specs.Limits.{lineLimit};
 ghost use Rattle.shapes.specs.Shape.{lineOf};
-ghost use Rattle.thick_segment.specs.Segments.{SegmentNear, isSegmentNear, upperOf, lowerOf, topOf, bottomOf, isSkeleton, edgesOf};
+ghost use Rattle.thick_segment.specs.Segments.{SegmentNear, isSegmentNear, farBend, upperOf, lowerOf, topOf, bottomOf, isSkeleton, edgesOf};
 ghost use Rattle.thick_segment.specs.Segments.{least as leastOf, most as mostOf, boxOf, union as unionOf, boundingBox};
 ghost use Rattle.thick_segment.specs.Segments.{coordinates as coordinatesOf, capLines, placed, countOf, lineAt, AllNear, metRows, perimeterOf, spanOn};
 ghost use Rattle.thick_segment.specs.Rows.{lineRows, around as aroundOf, withLines, drawnRows};
@@ -35,6 +35,22 @@ pub fn is_segment_near(segment: Segment, limit: u32) -> bool
         is_join_near(segment.start, limit),
         is_join_near(segment.end, limit),
     )
+}
+
+/// The position of the first join of a segment, the start join before the end join, that has a corner beyond `limit`; 0 where
+/// neither has.
+pub fn far_bend(segment: Segment, limit: u32) -> usize
+    ensures { λ r. ⌜ r ≡ farBend limit segment ⌝ }
+{
+    let start = segment.start;
+    let end = segment.end;
+    if is_join_near(start, limit) {
+        if is_join_near(end, limit) {
+            return 0;
+        }
+        return end.position;
+    }
+    start.position
 }
 
 /// Whether a segment is one pixel wide: the left and the right corner at which the line before its start join ends are one.
@@ -139,7 +155,7 @@ fn cap_count(caps: Caps) -> usize
     match caps {
         Caps::One(_) => 1,
         Caps::Two(_, _) => 2,
-        Caps::Refused(_) => 0,
+        Caps::Refused(_, _) => 0,
     }
 }
 
@@ -172,7 +188,7 @@ fn with_caps(rows: [[i64; 4]; 6], at: usize, caps: Caps) -> [[i64; 4]; 6]
     match caps {
         Caps::One(a) => with_line(rows, at, a),
         Caps::Two(a, b) => with_line(with_line(rows, at, a), at + 1, b),
-        Caps::Refused(_) => rows,
+        Caps::Refused(_, _) => rows,
     }
 }
 
@@ -258,7 +274,7 @@ fn with_cap_rows(rows: Rows, caps: Caps) -> Rows
     match caps {
         Caps::One(a) => around(rows, line_rows(a)),
         Caps::Two(a, b) => around(around(rows, line_rows(a)), line_rows(b)),
-        Caps::Refused(_) => rows,
+        Caps::Refused(_, _) => rows,
     }
 }
 

@@ -1,11 +1,13 @@
 //! A thick segment between two joins: whether it is a skeleton, its edges and their bounding box, the lines that are drawn and their
-//! rows, and its span on a row. `thick_segment.rs`.
+//! rows, and its span on a row. `thick_segment.rs`. An answer that is refused with 5 has in `bend` the position of the join with a
+//! corner beyond 4,095, of the start join if both have one; every other answer has 0 there.
 ghost use mathlib.Core.Path.{_≡_};
 ghost use Rattle.shapes.specs.Limits.{cornerLimit};
 ghost use Rattle.thick_segment.specs.Answers.{skeletonAnswer, edgesAnswer, boxAnswer, perimeterAnswer, countAnswer, drawnRowsAnswer, segmentRefusal, spanAnswer};
 
 pub mod inner; // inner.rt: the same without the tests
 
+use inner::far_bend;
 use inner::is_segment_near;
 use line_join::Join;
 use shapes::Line;
@@ -43,36 +45,42 @@ pub struct Rows {
 /// The edges, or the refusal with zeros.
 pub struct Edged {
     pub refusal: u64,
+    pub bend: usize,
     pub edges: EdgePair,
 }
 
 /// The box, or the refusal with zeros.
 pub struct Boxed {
     pub refusal: u64,
+    pub bend: usize,
     pub rectangle: Rectangle,
 }
 
 /// The rows of the lines that are drawn, or the refusal with zeros.
 pub struct DrawnRows {
     pub refusal: u64,
+    pub bend: usize,
     pub rows: Rows,
 }
 
 /// Whether a segment is one pixel wide, or the refusal with false.
 pub struct Skeletal {
     pub refusal: u64,
+    pub bend: usize,
     pub skeleton: bool,
 }
 
 /// A segment's span on a row, or the refusal with zeros.
 pub struct SegmentSpan {
     pub refusal: u64,
+    pub bend: usize,
     pub span: Span,
 }
 
 /// How many lines are drawn, or the refusal with 0.
 pub struct Counted {
     pub refusal: u64,
+    pub bend: usize,
     pub count: usize,
 }
 
@@ -83,11 +91,13 @@ pub fn is_skeleton(segment: Segment) -> Skeletal
     if is_segment_near(segment, limits::CORNER) {
         return Skeletal {
             refusal: 0,
+            bend: 0,
             skeleton: inner::is_skeleton(segment),
         };
     }
     Skeletal {
         refusal: CORNER,
+        bend: far_bend(segment, limits::CORNER),
         skeleton: false,
     }
 }
@@ -111,11 +121,13 @@ pub fn perimeter_count(segment: Segment) -> Counted
     if is_segment_near(segment, limits::CORNER) {
         return Counted {
             refusal: 0,
+            bend: 0,
             count: inner::perimeter_count(segment),
         };
     }
     Counted {
         refusal: CORNER,
+        bend: far_bend(segment, limits::CORNER),
         count: 0,
     }
 }
@@ -127,6 +139,7 @@ pub fn edges(segment: Segment) -> Edged
     if is_segment_near(segment, limits::CORNER) {
         return Edged {
             refusal: 0,
+            bend: 0,
             edges: inner::edges(segment),
         };
     }
@@ -141,6 +154,7 @@ pub fn edges(segment: Segment) -> Edged
     };
     Edged {
         refusal: CORNER,
+        bend: far_bend(segment, limits::CORNER),
         edges,
     }
 }
@@ -153,6 +167,7 @@ pub fn edges_bounding_box(segment: Segment) -> Boxed
     if is_segment_near(segment, limits::CORNER) {
         return Boxed {
             refusal: 0,
+            bend: 0,
             rectangle: inner::edges_bounding_box(segment),
         };
     }
@@ -163,6 +178,7 @@ pub fn edges_bounding_box(segment: Segment) -> Boxed
     };
     Boxed {
         refusal: CORNER,
+        bend: far_bend(segment, limits::CORNER),
         rectangle,
     }
 }
@@ -175,11 +191,13 @@ pub fn drawn_rows(segment: Segment) -> DrawnRows
     if is_segment_near(segment, limits::CORNER) {
         return DrawnRows {
             refusal: 0,
+            bend: 0,
             rows: inner::drawn_rows(segment),
         };
     }
     DrawnRows {
         refusal: CORNER,
+        bend: far_bend(segment, limits::CORNER),
         rows: Rows { first: 0, last: 0 },
     }
 }
@@ -193,11 +211,13 @@ pub fn span(segment: Segment, row: i64) -> SegmentSpan
     if refusal == 0 {
         return SegmentSpan {
             refusal: 0,
+            bend: 0,
             span: inner::span(segment, row),
         };
     }
     SegmentSpan {
         refusal,
+        bend: far_bend(segment, limits::CORNER),
         span: Span {
             row: 0,
             start: 0,

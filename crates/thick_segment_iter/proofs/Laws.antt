@@ -3,19 +3,21 @@ use mathlib.Core.Path.{_≡_, refl}
 use mathlib.Core.Logic.{_↔_, _≢_}
 use mathlib.Core.Bool.{false}
 use mathlib.Core.List.{List}
-use Prim.Native.Nat.{ℕ, _<_}
+use Prim.Native.Nat.{ℕ, _+_, _<_}
 use borrow.Author.Tests.{eq-eqb}
 use lib.Dec.{eqb}
 use lib.IntN.{ℤ, pos}
 use Rattle.whole.proofs.Tests.{Chosen, chosen, eqb-iff}
 use Rattle.shapes.specs.declared.limits.Limits.{Limits}
 use Rattle.shapes.specs.declared.Offset.the-variants.{None}
+use Rattle.line_join.specs.Words.{BendTold}
 use Rattle.thick_segment.specs.Segments.{SegmentNear}
+use Rattle.thick_segment.specs.Words.{joinsIn}
 use Rattle.coordinates.specs.Refusal.{routeRefusal, Accepted}
 use Rattle.coordinates.proofs.Laws.{accepted-exactly}
-use Rattle.route_joins.specs.Joins.{openSegment, openCount}
+use Rattle.route_joins.specs.Joins.{endPlace, openSegment, openCount}
 use Rattle.route_joins.specs.Steps.{StepTold, SegmentBySegment}
-use Rattle.route_joins.proofs.Walks.{place-kept, route-told, route-in-turn, route-five, route-other, refusal-told}
+use Rattle.route_joins.proofs.Walks.{place-kept, route-told, route-in-turn, route-five, route-other, route-step-bend, route-step-positions, refusal-told}
 use Rattle.thick_segment_iter.specs.declared.Walk.{Walk}
 use Rattle.thick_segment_iter.specs.declared.Started.{Started}
 use Rattle.thick_segment_iter.specs.Walks.{openStart, openStep, afterOpen}
@@ -44,6 +46,17 @@ module _ (limits : Limits) (cs : List ℤ) (walk : Walk) where
   pub step-other : {n : ℕ} → 0 < n → (n ≡ 5 → ⊥) → (openStep limits cs walk .refusal ≡ n) ↔ (routeRefusal (limits .point) false cs (walk .width) ≡ n)
   unfolding openStep
   step-other = route-other limits false cs (walk .width) None (walk .place)
+
+  -- with 5 comes the position of the first join of the segment that has such a corner
+  pub step-bend : let v = openStep limits cs walk in
+      BendTold ((routeRefusal (limits .point) false cs (walk .width) ≡ 0) × (walk .place < openCount cs)) (limits .corner) (joinsIn (openSegment cs (walk .width) (walk .place))) 2 (v .refusal) (v .bend)
+  unfolding openStep
+  step-bend = route-step-bend limits false cs (walk .width) None (walk .place)
+
+  -- the joins that a step hands out have the segment's place and the next one for their positions
+  pub step-positions : let v = openStep limits cs walk in v .found ≡ 1 → (v .start .position ≡ walk .place) × (v .end .position ≡ walk .place + 1)
+  unfolding openStep endPlace
+  step-positions = route-step-positions limits false cs (walk .width) None (walk .place)
 
   -- what a step answers, wherever the walk stands and whatever list is handed to it
   pub step-told : StepTold (limits .corner) (routeRefusal (limits .point) false cs (walk .width)) (openCount cs) (openSegment cs (walk .width)) (walk .place) (openStep limits cs walk)

@@ -1,4 +1,5 @@
--- The segments of the printed open iterator are those of the open walk, and past the last one it answers none. Assumes nothing.
+-- The segments of the printed open iterator are those of the open walk but for positions, and past the last one it answers none. Assumes
+-- nothing.
 use mathlib.Core.Path.{_≡_, refl, sym, ap, _∙_}
 use mathlib.Core.Bool.{true, false}
 use mathlib.Core.List.{[], _∷_, List}
@@ -17,7 +18,7 @@ use Rattle.line_join.specs.Join.{endOf, joinOf}
 use Rattle.line_join.proofs.Laws.{join-kind-exactly}
 use Rattle.coordinates.specs.Points.{pointAt, pointCount, pointsOf, segmentsOf}
 use Rattle.coordinates.proofs.Lists.{points-in-turn, last-two}
-use Rattle.route_joins.specs.Joins.{openJoin, segmentCount, openSegment, openCount}
+use Rattle.route_joins.specs.Joins.{openJoin, segmentCount, bare, openSegment, openCount}
 use Rattle.route_joins.proofs.Open.{first-join, last-join, inner-join, segment-is}
 use Rattle.thick_segment_iter.specs.Printed.{Iterator, isEnd, pastWindows, movedBy, answered, openSegments}
 
@@ -61,7 +62,7 @@ module _ (cs : List ℤ) (w : ℤ) where
 
   -- it answers the segments from place k on, and then none, however many calls more are made
   abbrev Answers : List Point → ℕ → ℕ → Type 0
-  Answers ps k left = (more : ℕ) → answered w (point (n - 2)) (point (n - 1)) (iterator ps k) (suc left + more) ≡ listFrom (openSegment cs w) k (suc left)
+  Answers ps k left = (more : ℕ) → answered w (point (n - 2)) (point (n - 1)) (iterator ps k) (suc left + more) ≡ listFrom (λ i. bare (openSegment cs w i)) k (suc left)
 
   -- at the last segment
   at-last : (ps : List Point) (k : ℕ) → length ps ≤ 2 → suc (suc k) ≡ n → Answers ps k 0
@@ -97,7 +98,7 @@ module _ (cs : List ℤ) (w : ℤ) where
   from-place (suc zero) k e = before-last (point (suc k) ∷ point (suc (suc k)) ∷ []) k (lit≤ tt) (omega (arith, e))
   from-place (suc (suc left)) k e = by-window left k e (from-place (suc left) (suc k) (omega (arith, e)))
 
-  by-count : (m more : ℕ) → m ≡ n → openSegments w (listFrom point 0 m) (m - 1 + more) ≡ listFrom (openSegment cs w) 0 (m - 1)
+  by-count : (m more : ℕ) → m ≡ n → openSegments w (listFrom point 0 m) (m - 1 + more) ≡ listFrom (λ i. bare (openSegment cs w i)) 0 (m - 1)
   unfolding openSegments listFrom
   by-count zero more e = refl
   by-count (suc zero) more e = refl
@@ -111,7 +112,7 @@ module _ (cs : List ℤ) (w : ℤ) where
       let q : n - 1 ≡ 2 + m = omega (arith, e) in
       rw (less, last-two point _ m 1, sym (first-join cs w), sym (inner-join cs w 0 (omega (arith, e)))) (rw (p, q) at (from-place (suc m) 0 (omega (arith, e)) more))
 
-  -- from `new` on, `next` answers the walk's segments, and then none for ever
-  pub open-equal : (more : ℕ) → openSegments w (pointsOf cs) (openCount cs + more) ≡ listFrom (openSegment cs w) 0 (openCount cs)
+  -- from `new` on, `next` answers the walk's segments, which have positions besides, and then none for ever
+  pub open-equal : (more : ℕ) → openSegments w (pointsOf cs) (openCount cs + more) ≡ listFrom (λ i. bare (openSegment cs w i)) 0 (openCount cs)
   unfolding segmentCount segmentsOf
   open-equal more = rw (points-in-turn cs) (by-count n more refl)

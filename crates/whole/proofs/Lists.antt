@@ -1,13 +1,11 @@
--- Lists by their places, and tests of all places. Assumes nothing.
-use mathlib.Core.Path.{_≡_, refl, _∙_}
-use mathlib.Core.Bool.{Bool, true, false, _&&_}
+-- Lists by their places. Assumes nothing.
+use mathlib.Core.Path.{_≡_, refl}
 use mathlib.Core.List.{_∷_}
-use Prim.Native.Nat.{ℕ, zero, suc, _+_, _-_, _≤_, _<_}
+use Prim.Native.Nat.{ℕ, zero, suc, _+_, _-_, _<_}
 use native.Mathlib.Nat.{zero-add}
 use native.Mathlib.Omega.{arith}
 use lib.ListN.{drop}
-use Rattle.whole.specs.Places.{allFrom, listFrom}
-use Rattle.whole.proofs.Places.{all-end, all-next}
+use Rattle.whole.specs.Places.{listFrom}
 
 module _ {A : Type 0} where
   -- what is the same at each place
@@ -39,20 +37,3 @@ module _ {A : Type 0} where
   -- what stands at place i is the first of those that are left
   pub list-drop : (f : ℕ → A) (n i : ℕ) → i < n → drop i (listFrom f 0 n) ≡ f i ∷ listFrom f (i + 1) (n - (i + 1))
   list-drop f n i h = simp zero-add at (drop-from f n 0 i h)
-
--- ---- the test of the places so far, and of those that are left
-
-and-assoc : (a b c : Bool) → ((a && b) && c) ≡ (a && (b && c))
-and-assoc true b c = refl
-and-assoc false b c = refl
-
-and-true : (t : Bool) → (t && true) ≡ t
-and-true true = refl
-and-true false = refl
-
-module _ (test : ℕ → Bool) (so-far : Bool) (n i : ℕ) where
-  pub tested-more : i < n → ((so-far && test i) && allFrom test (i + 1) (n - (i + 1))) ≡ (so-far && allFrom test i (n - i))
-  tested-more h = and-assoc so-far (test i) _ ∙ rw (← all-next test n i h (test i) refl) refl
-
-  pub tested-done : n ≤ i → (so-far && allFrom test i (n - i)) ≡ so-far
-  tested-done h = rw (all-end test n i h) (and-true so-far)

@@ -1,5 +1,6 @@
 //! Words and numbers written to standard output. No contract can say what is written.
 use libc::STDOUT_FILENO;
+use shapes::refusals::CORNER;
 use whole::inner::size;
 
 /// Writes words.
@@ -30,4 +31,13 @@ pub fn say_next(x: i64) {
 pub fn say_refused(number: u64) {
     say(b"refused ");
     say_count(number);
+}
+
+/// Writes `refused`, the refusal's number, and after 5 the position of the bend.
+pub fn say_refused_at(number: u64, bend: usize) {
+    say_refused(number);
+    if number == CORNER {
+        say(b" ");
+        say_count(bend as u64);
+    }
 }

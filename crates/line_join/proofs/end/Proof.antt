@@ -30,7 +30,7 @@ end-requires c κs =
 returns : tie.Need-returns
 unfolding endAnswer
 returns c =
-    let t = c .before .before in
+    let t = c .before .before .before in
     let s = t .before .before .before in
     answer-made cornerLimit (s .args .width) (near s) (refusal (t .before)) _ (t .if1 .taken) (cc (toZ-ofZ (s .fits .width)))
 
@@ -41,4 +41,4 @@ returns-2 c =
     answer-refused cornerLimit (s .args .width) (near s) (refusal (c .before)) _ (c .if1 .left)
 
 pub end-spec : {M : Type 1} → statement M
-end-spec = tie.close (tie.spec (λ c κs. search needs) (λ c κs. search needs) end-requires (λ c κs. search needs) returns returns-2)
+end-spec = tie.close (tie.spec (λ c κs. search needs) (λ c κs. search needs) end-requires (λ c κs. search needs) (λ c κs. search needs) returns returns-2)

@@ -32,7 +32,7 @@ from-points-requires c κs =
 returns : tie.Need-returns
 unfolding pointsAnswer
 returns c =
-    let t = c .before .before in
+    let t = c .before .before .before in
     let s = t .before .before .before .before .before in
     answer-made cornerLimit (s .args .width) (near s) (refusal (t .before)) _ (t .if1 .taken) (cc (toZ-ofZ (s .fits .width)))
 
@@ -45,4 +45,4 @@ returns-2 c =
 pub from-points-spec : {M : Type 1} → statement M
 from-points-spec =
     tie.close
-    (tie.spec (λ c κs. search needs) (λ c κs. search needs) (λ c κs. search needs) (λ c κs. search needs) from-points-requires (λ c κs. search needs) returns returns-2)
+    (tie.spec (λ c κs. search needs) (λ c κs. search needs) (λ c κs. search needs) (λ c κs. search needs) from-points-requires (λ c κs. search needs) (λ c κs. search needs) returns returns-2)

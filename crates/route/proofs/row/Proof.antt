@@ -6,7 +6,7 @@ use mir.Facts.{toZ-ofZ}
 use Rattle.shapes.specs.Limits.{panel, Roomy}
 use lib.ListN.{length}
 use Rattle.route.specs.Answers.{preparedOf, answerOn, listOn}
-use Rattle.route.proofs.Chains.{Ready, ready, refused-with, row-stopped, row-made, list-made}
+use Rattle.route.proofs.Chains.{Ready, ready, refused-with, named-with, row-stopped, row-made, list-made}
 use Rattle.route.proofs.row.Statement.{statement}
 use Rattle.route.proofs.row.Tie as tie
 
@@ -24,7 +24,8 @@ returns : tie.Need-returns
 returns c =
     let p = c .before .before .before in
     let a = p .before .before .args in
-    row-stopped panel (a .closed) (a .coordinates .now) (a .width) (refused-with panel (a .closed) (a .coordinates .now) (a .width) (told p)) (c .before .if1 .taken) (a .row) (a .out .now) (c .refused .ensures)
+    row-stopped panel (a .closed) (a .coordinates .now) (a .width) (refused-with panel (a .closed) (a .coordinates .now) (a .width) (told p)) (c .before .if1 .taken)
+    (named-with panel (a .closed) (a .coordinates .now) (a .width) (told p)) (a .row) (a .out .now) (c .refused .ensures)
 
 returns-2 : tie.Need-returns-2
 returns-2 c =

@@ -5,7 +5,7 @@ use lib.Dec.{lit≤}
 use mir.Facts.{toZ-ofZ}
 use Rattle.shapes.specs.Limits.{panel, Roomy}
 use Rattle.route.specs.Answers.{preparedOf}
-use Rattle.route.proofs.Chains.{Ready, ready, refused-with, rows-stopped, rows-made}
+use Rattle.route.proofs.Chains.{Ready, ready, refused-with, named-with, rows-stopped, rows-made}
 use Rattle.route.proofs.rows.Statement.{statement}
 use Rattle.route.proofs.rows.Tie as tie
 
@@ -24,6 +24,7 @@ returns c =
     let p = c .before .before in
     let a = p .before .before .args in
     rows-stopped panel (a .closed) (a .coordinates .now) (a .width) (refused-with panel (a .closed) (a .coordinates .now) (a .width) (told p)) (c .if1 .taken)
+    (named-with panel (a .closed) (a .coordinates .now) (a .width) (told p))
 
 returns-2 : tie.Need-returns-2
 returns-2 c = let a = c .before .before .before .before .before .args in c .rows-of .ensures ∙ rows-made panel (a .closed) (a .coordinates .now) (a .width) (free (c .before))

@@ -1,5 +1,5 @@
 -- `scanline_intersections::next` meets its contract. Assumes nothing.
-use mathlib.Core.Path.{_≡_, sym, _∙_}
+use mathlib.Core.Path.{_≡_, sym, ap, _∙_}
 use mathlib.Core.Bool.{false}
 use borrow.Author.Needs.{needs}
 use borrow.Author.Tests.{ne-eqb}
@@ -12,12 +12,12 @@ use Rattle.scanline_intersections.proofs.Refused.{next-sound}
 use Rattle.scanline_intersections.proofs.next.Statement.{statement}
 use Rattle.scanline_intersections.proofs.next.Tie as tie
 
-none : (c : tie.Then1) → let a = c .before .before .args in nextRefusal panel (a .coordinates .now) (a .walk) ≡ 0
-none c = sym (c .before .next-refusal .ensures) ∙ c .if1 .taken
+none : (c : tie.Then1) → let a = c .before .before .before .args in nextRefusal panel (a .coordinates .now) (a .walk) ≡ 0
+none c = sym (ap (λ r. r .number) (c .before .before .next-refusal .ensures)) ∙ c .if1 .taken
 
 merge-requires : tie.Need-merge-requires
 merge-requires c κs =
-    let a = c .before .before .args in
+    let a = c .before .before .before .args in
     let h = next-sound panel (a .coordinates .now) (a .walk) .0 (none c) in
     (all-more (h .0 .near) (lit≤ tt), (h .0 .thin, joins-exactly lineLimit false (a .coordinates .now) (a .walk .width) .1 (λ i l. join-near-more (h .1 .0 i l) (lit≤ tt))))
 
@@ -27,7 +27,9 @@ returns c = rw (none (c .before)) (c .merge .ensures)
 
 returns-2 : tie.Need-returns-2
 unfolding nextAnswer
-returns-2 c = let e = c .before .next-refusal in rw (← e .ensures) (simp (ne-eqb (e .result) 0 (c .if1 .left)))
+returns-2 c =
+    let e = c .before .before .next-refusal in
+    rw (← ap (λ r. r .number) (e .ensures), ← ap (λ r. r .bend) (e .ensures)) (simp (ne-eqb (e .result .number) 0 (c .if1 .left)))
 
 pub next-spec : {M : Type 1} → statement M
 next-spec = tie.close (tie.spec (λ c κs. search needs) merge-requires returns returns-2)

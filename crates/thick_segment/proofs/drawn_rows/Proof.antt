@@ -20,7 +20,7 @@ returns c = simp (inside (c .before), c .drawn-rows .ensures) refl
 
 returns-2 : tie.Need-returns-2
 unfolding drawnRowsAnswer
-returns-2 c = simp (sym (c .before .is-segment-near .ensures) ∙ c .if1 .left) refl
+returns-2 c = simp (sym (c .before .before .is-segment-near .ensures) ∙ c .before .if1 .left, c .far-bend .ensures) refl
 
 pub drawn-rows-spec : {M : Type 1} → statement M
-drawn-rows-spec = tie.close (tie.spec (λ c κs. search needs) drawn-rows-requires returns returns-2)
+drawn-rows-spec = tie.close (tie.spec (λ c κs. search needs) drawn-rows-requires returns (λ c κs. search needs) returns-2)

@@ -16,7 +16,7 @@ returns c = simp (inside (c .before), c .is-skeleton .ensures)
 
 returns-2 : tie.Need-returns-2
 unfolding skeletonAnswer
-returns-2 c = simp (sym (c .before .is-segment-near .ensures) ∙ c .if1 .left)
+returns-2 c = simp (sym (c .before .before .is-segment-near .ensures) ∙ c .before .if1 .left, c .far-bend .ensures)
 
 pub is-skeleton-spec : {M : Type 1} → statement M
-is-skeleton-spec = tie.close (tie.spec (λ c κs. search needs) (λ c κs. search needs) returns returns-2)
+is-skeleton-spec = tie.close (tie.spec (λ c κs. search needs) (λ c κs. search needs) returns (λ c κs. search needs) returns-2)

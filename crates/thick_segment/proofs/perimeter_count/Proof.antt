@@ -20,7 +20,7 @@ returns c = simp (inside (c .before), c .perimeter-count .ensures)
 
 returns-2 : tie.Need-returns-2
 unfolding countAnswer
-returns-2 c = simp (sym (c .before .is-segment-near .ensures) ∙ c .if1 .left)
+returns-2 c = simp (sym (c .before .before .is-segment-near .ensures) ∙ c .before .if1 .left, c .far-bend .ensures)
 
 pub perimeter-count-spec : {M : Type 1} → statement M
-perimeter-count-spec = tie.close (tie.spec (λ c κs. search needs) perimeter-count-requires returns returns-2)
+perimeter-count-spec = tie.close (tie.spec (λ c κs. search needs) perimeter-count-requires returns (λ c κs. search needs) returns-2)

@@ -27,7 +27,7 @@ returns c =
 
 returns-2 : tie.Need-returns-2
 unfolding spanAnswer
-returns-2 c = rw (← refusal-is (c .before)) (simp (ne-eqb (c .before .segment-refusal .result) 0 (c .if1 .left)))
+returns-2 c = let n = c .before .before in rw (← refusal-is n) (simp (ne-eqb (n .segment-refusal .result) 0 (c .before .if1 .left), c .far-bend .ensures))
 
 pub span-spec : {M : Type 1} → statement M
-span-spec = tie.close (tie.spec (λ c κs. search needs) span-requires returns returns-2)
+span-spec = tie.close (tie.spec (λ c κs. search needs) span-requires returns (λ c κs. search needs) returns-2)

@@ -1,24 +1,24 @@
--- `route::inner::joins_of` meets its contract: the array holds the joins so far, and the test of these and of those that are left is the test
--- of all. The measure is how many are left. Assumes nothing.
+-- `route::inner::joins_of` meets its contract: the array holds the joins so far, and those counted so far, with those that are left, come to
+-- the number of all. The measure is how many are left. Assumes nothing.
 use mathlib.Core.Path.{_≡_, sym, ap, _∙_}
-use mathlib.Core.Bool.{Bool, _&&_}
+use mathlib.Core.Bool.{Bool}
 use Prim.Native.Nat.{ℕ, _+_, _-_, _≤_, _<_}
 use native.Mathlib.Omega.{arith}
 use borrow.Author.Needs.{needs}
 use lib.ListN.{set, replicate}
 use mir.Syntax.{w64}
 use mir.Val.{toZ, ofZ}
-use Rattle.whole.specs.Places.{allFrom, listFrom}
-use Rattle.whole.proofs.Places.{list-length}
+use Rattle.whole.specs.Places.{failsFrom, passedWith, listFrom}
+use Rattle.whole.proofs.Places.{list-length, Counted, counted-more, counted-most, counted-done}
 use Rattle.shapes.proofs.Widths.{thin-held, thin-back}
 use Rattle.line_join.specs.declared.Join.{Join}
 use Rattle.line_join.specs.Caps.{isJoinNear}
 use Rattle.board.proofs.Arrays.{partly, fill-turn, fill-done}
 use Rattle.coordinates.specs.Points.{pointCount}
-use Rattle.route_joins.specs.Joins.{joinAt, joinCount, areJoinsNear}
+use Rattle.route_joins.specs.Joins.{joinAt, joinCount, nearJoins}
 use Rattle.route_joins.proofs.Near.{join-inside}
 use Rattle.route.specs.Joined.{noJoin, keptIn, joinsOf}
-use Rattle.whole.proofs.Lists.{list-drop, tested-more, tested-done}
+use Rattle.whole.proofs.Lists.{list-drop}
 use Rattle.route.proofs.inner.joins_of.Statement.{statement}
 use Rattle.route.proofs.inner.joins_of.Tie as tie
 
@@ -27,16 +27,16 @@ Inv-loop coordinates width closed limit count joins₀ near₀ i₀ joins near i
     let join = joinAt closed coordinates (toZ w64 width) in
     (i ≤ count) × ((count ≡ joinCount coordinates)
     × ((joins ≡ partly 256 noJoin (listFrom join 0 count) i)
-    × ((near && allFrom (λ j. isJoinNear limit (join j)) i (count - i)) ≡ areJoinsNear limit closed coordinates (toZ w64 width))))
+    × ((near ≤ i) × (Counted (λ j. isJoinNear limit (join j)) count near i ≡ nearJoins limit closed coordinates (toZ w64 width)))))
 
 abbrev μ-loop : tie.MeasureT-loop
 μ-loop coordinates width closed limit count joins₀ near₀ i₀ joins near i = count - i
 
 -- the loop's start, its joins by their place with the width as the calls have it, and the test of each
-abbrev Counted : Type 0
-Counted = tie.After-join-count Inv-loop μ-loop
+abbrev Begun : Type 0
+Begun = tie.After-join-count Inv-loop μ-loop
 
-module _ (c : Counted) where
+module _ (c : Begun) where
   abbrev n : ℕ
   n = c .join-count .result
 
@@ -54,15 +54,15 @@ module _ (c : Counted) where
   room h = omega (arith, inside h .1, c .before .pre .1 .1)
 
 loop-holds : tie.Need-loop-holds Inv-loop μ-loop
-unfolding areJoinsNear
+unfolding nearJoins
 loop-holds c =
     let e = c .before .join-count .ensures in
     let all : c .before .join-count .result - 0 ≡ joinCount (c .before .before .args .coordinates .now) = omega (arith, e) in
-    (omega arith, (e, (ap (replicate 256) (c .no-join .ensures), ap (allFrom (test (c .before)) 0) all)))
+    (omega arith, (e, (ap (replicate 256) (c .no-join .ensures), (omega arith, ap (failsFrom (test (c .before)) 0) all))))
 
 -- ---- in a turn of the loop
 
-abbrev counted : tie.In-loop Inv-loop μ-loop → Counted
+abbrev counted : tie.In-loop Inv-loop μ-loop → Begun
 counted c = c .before .before .before
 
 room-here : (c : tie.In-loop Inv-loop μ-loop) → c .before .loop .i < 256
@@ -74,9 +74,9 @@ join-on-requires c κs =
     let i = inside (counted c) (c .loop-test .taken) in
     (record { near = s .pre .0; thin = thin-back (s .pre .1 .0); several = i .0 }, i .1)
 
-near : (c : tie.After-both Inv-loop μ-loop) → let l = c .before .before .before in
-    c .both .result ≡ (l .before .loop .near && test (counted l) (l .before .loop .i))
-near c = rw (c .both .ensures, c .before .is-join-near .ensures, c .before .before .join-on .ensures)
+near : (c : tie.After-near-with Inv-loop μ-loop) → let l = c .before .before .before in
+    c .near-with .result ≡ passedWith (l .before .loop .near) (l .before .loop .i) (test (counted l) (l .before .loop .i))
+near c = rw (c .near-with .ensures, c .before .is-join-near .ensures, c .before .before .join-on .ensures)
 
 loop-again : tie.Need-loop-again Inv-loop μ-loop
 loop-again c =
@@ -92,7 +92,10 @@ loop-again c =
         (
           ap (λ js. set js i (c .before .before .join-on .result)) (inv .0) ∙ ap (set (partly 256 noJoin all i) i) (c .before .before .join-on .ensures)
               ∙ fill-turn 256 noJoin all (listFrom (join s) (i + 1) (n s - (i + 1))) i (join s i) (room s more) (list-drop (join s) (n s) i more),
-          ap (λ t. t && allFrom (test s) (i + 1) (n s - (i + 1))) (near c) ∙ tested-more (test s) (l .before .loop .near) (n s) i more ∙ inv .1,
+          (
+            rw (near c) (counted-most (test s) (l .before .loop .near) i (test s i) (inv .1 .0)),
+            ap (λ m. Counted (test s) (n s) m (i + 1)) (near c) ∙ counted-more (test s) (n s) (l .before .loop .near) i (inv .1 .0) more ∙ inv .1 .1,
+          ),
         ),
       ),
     )
@@ -105,7 +108,7 @@ returns c =
     let inv = l .loop .inv .1 .1 in
     let last : l .loop .i ≡ n s = omega (arith, l .loop .inv .0) in
     let full = inv .0 ∙ fill-done 256 noJoin (listFrom (join s) 0 (n s)) (l .loop .i) (last ∙ sym (list-length (join s) 0 (n s))) in
-    let tested = sym (tested-done (test s) (l .loop .near) (n s) (l .loop .i) (omega arith)) ∙ inv .1 in
+    let tested = sym (counted-done (test s) (n s) (l .loop .near)) ∙ ap (Counted (test s) (n s) (l .loop .near)) (sym last) ∙ inv .1 .1 in
     rw (← thin-held (s .before .pre .1 .0) .is, full, tested, l .loop .inv .1 .0)
 
 pub joins-of-spec : {M : Type 1} → statement M
@@ -119,7 +122,7 @@ joins-of-spec =
     loop-holds
     join-on-requires
     (λ c κs. search needs)
-    (λ c κs. search needs)
+    (λ c κs. room-here (c .before .before))
     (λ c. omega (arith, room-here (c .before .before .before)))
     (λ c. room-here (c .before .before .before))
     (λ c. omega (arith, room-here (c .before .before .before)))

@@ -6,6 +6,7 @@ use mir.Facts.{toZ-ofZ}
 use Rattle.shapes.proofs.Widths.{thin-back}
 use Rattle.coordinates.specs.Refusal.{routeRefusal, Accepted}
 use Rattle.coordinates.proofs.Laws.{accepted-exactly}
+use Rattle.route_joins.specs.Joins.{routeBend}
 use Rattle.route_joins.proofs.Near.{all-more}
 use Rattle.route.specs.Joined.{joinsOf}
 use Rattle.route.specs.Answers.{drawRefusal, preparedOf}
@@ -23,7 +24,7 @@ made : (c : tie.After-joins-of) → let a = c .before .before .before .args in c
 made c = cc (toZ-ofZ (c .before .before .before .fits .width))
 
 returns : tie.Need-returns
-unfolding preparedOf drawRefusal
+unfolding preparedOf drawRefusal routeBend
 returns c =
     let r = c .before .before in
     let other = ne-eqb (r .refusal .result) 0 (c .before .if1 .taken) in
@@ -36,10 +37,10 @@ zero : (c : tie.After-joins-of) → let a = c .before .before .before .args in r
 zero c = sym (told (c .before .before)) ∙ c .before .if1 .left
 
 returns-2 : tie.Need-returns-2
-returns-2 c = let m = c .before in let a = m .before .before .before .args in prepared-near (a .limits) (a .closed) (a .coordinates .now) (a .width) (zero m) (made m) (c .if2 .taken)
+returns-2 c = let m = c .before .before in let a = m .before .before .before .args in prepared-near (a .limits) (a .closed) (a .coordinates .now) (a .width) (zero m) (made m) (c .if2 .taken)
 
 returns-3 : tie.Need-returns-3
-returns-3 c = let m = c .before in let a = m .before .before .before .args in prepared-far (a .limits) (a .closed) (a .coordinates .now) (a .width) (zero m) (made m) (c .if2 .left)
+returns-3 c = let m = c .before .before in let a = m .before .before .before .args in prepared-far (a .limits) (a .closed) (a .coordinates .now) (a .width) (zero m) (made m) (c .if2 .left)
 
 pub prepare-spec : {M : Type 1} → statement M
 prepare-spec = tie.close (tie.spec (λ c κs. search needs) (λ c κs. search needs) returns joins-of-requires returns-2 returns-3)

@@ -1,4 +1,5 @@
 -- `route_joins::inner::join_on` meets its contract. Assumes nothing.
+use borrow.Author.Needs.{needs}
 use Rattle.route_joins.proofs.Near.{drawable-back}
 use Rattle.route_joins.specs.Joins.{joinOn}
 use Rattle.shapes.proofs.Widths.{thin-held}
@@ -10,14 +11,14 @@ closed-join-requires c κs = (drawable-back (c .before .pre .0), c .before .pre 
 
 returns : tie.Need-returns
 unfolding joinOn
-returns c = rw (c .before .if1 .taken) (cc (thin-held (c .before .before .pre .0 .thin) .is))
+returns c = let t = c .before .before in rw (t .if1 .taken) (cc (thin-held (t .before .pre .0 .thin) .is))
 
 open-join-requires : tie.Need-open-join-requires
 open-join-requires c κs = (drawable-back (c .before .pre .0), c .before .pre .1)
 
 returns-2 : tie.Need-returns-2
 unfolding joinOn
-returns-2 c = rw (c .before .if1 .left) (cc (thin-held (c .before .before .pre .0 .thin) .is))
+returns-2 c = let t = c .before .before in rw (t .if1 .left) (cc (thin-held (t .before .pre .0 .thin) .is))
 
 pub join-on-spec : {M : Type 1} → statement M
-join-on-spec = tie.close (tie.spec closed-join-requires returns open-join-requires returns-2)
+join-on-spec = tie.close (tie.spec closed-join-requires (λ c κs. search needs) returns open-join-requires (λ c κs. search needs) returns-2)

@@ -5,7 +5,7 @@ use native.Mathlib.Omega.{arith}
 use borrow.Author.Needs.{needs}
 use mir.Facts.{toZ-ofZ}
 use Rattle.thick_segment.specs.declared.Segment.{Segment}
-use Rattle.thick_segment.specs.Segments.{isSegmentNear}
+use Rattle.thick_segment.specs.Segments.{isSegmentNear, farBend}
 use Rattle.coordinates.specs.Refusal.{routeRefusal}
 use Rattle.coordinates.proofs.Laws.{accepted-exactly}
 use Rattle.route_joins.specs.declared.Step.the-variants.{Drawn, Refused}
@@ -50,7 +50,7 @@ unfolding routeStep placeFrom stepValues
 returns c =
     let s = c .before .before in
     let e = told (c .before) in
-    (ap (λ n. stepValues (Refused n)) e ∙ sym (step-refused (corner s) (refused s) (count s) (segment s) (s .args .place) (omega (arith, e))), refl)
+    (ap (λ n. stepValues (Refused n 0)) e ∙ sym (step-refused (corner s) (refused s) (count s) (segment s) (s .args .place) (omega (arith, e))), refl)
 
 segment-of-requires : tie.Need-segment-of-requires
 segment-of-requires c κs =
@@ -70,11 +70,12 @@ returns-2 c =
 returns-3 : tie.Need-returns-3
 unfolding routeStep placeFrom stepValues
 returns-3 c =
-    let n = c .before in
+    let n = c .before .before in
     let t = n .before .before in
     let e = t .before .before in
     let s = e .before .before in
-    (sym (step-corner (corner s) (refused s) (count s) (segment s) (s .args .place) (none e) (inside t) (near n ∙ c .if3 .left)), refl)
+    let bend = c .far-bend .ensures ∙ ap (farBend (corner s)) (here (n .before)) in
+    (ap (λ b. stepValues (Refused 5 b)) bend ∙ sym (step-corner (corner s) (refused s) (count s) (segment s) (s .args .place) (none e) (inside t) (near n ∙ c .before .if3 .left)), refl)
 
 returns-4 : tie.Need-returns-4
 unfolding routeStep placeFrom stepValues
@@ -94,5 +95,6 @@ step-at-spec =
     (λ c. search needs)
     (λ c κs. search needs)
     returns-2
+    (λ c κs. search needs)
     returns-3
     returns-4)

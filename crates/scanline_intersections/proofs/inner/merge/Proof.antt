@@ -98,7 +98,7 @@ returns c =
     let e = c .before in
     let l = e .before .before .before .before in
     let stop = merged-stop (list l) (width l) (row l) (l .loop .place) (l .loop .gathered) (omega (arith, l .loop .inv .0)) (sym (ap (λ j. j .joined) (tried-is e)) ∙ c .if1 .left) in
-    ap (λ o. record { refusal = 0; found = true; span = l .loop .gathered; walk = walkOf (l .loop .place + 1) (width l) o }) (other-is (e .before)) ∙ sym stop ∙ left l
+    ap (λ o. record { refusal = 0; bend = 0; found = true; span = l .loop .gathered; walk = walkOf (l .loop .place + 1) (width l) o }) (other-is (e .before)) ∙ sym stop ∙ left l
 
 returns-2 : tie.Need-returns-2 Inv-loop μ-loop
 returns-2 c =

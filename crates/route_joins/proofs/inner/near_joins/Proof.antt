@@ -1,4 +1,4 @@
--- `route_joins::inner::are_joins_near` meets its contract: the joins from here on pass where all do. Assumes nothing.
+-- `route_joins::inner::near_joins` meets its contract: the first join that is not near is one from here on. Assumes nothing.
 use mathlib.Core.Bool.{Bool, true, false}
 use mathlib.Core.Path.{_≡_, sym, _∙_}
 use Prim.Native.Nat.{_-_, _≤_}
@@ -7,37 +7,36 @@ use native.Mathlib.Omega.{arith}
 use borrow.Author.Needs.{needs}
 use mir.Syntax.{w64}
 use mir.Val.{toZ, ofZ}
-use Rattle.line_join.specs.Caps.{isJoinNear}
 use Rattle.route_joins.proofs.Near.{join-inside}
-use Rattle.route_joins.specs.Joins.{joinAt, joinCount, areJoinsNear}
+use Rattle.route_joins.specs.Joins.{joinCount, isNearAt, nearJoins}
 use Rattle.shapes.proofs.Widths.{thin-held, thin-back}
-use Rattle.whole.proofs.Places.{all-end, all-next}
-use Rattle.whole.specs.Places.{allFrom}
-use Rattle.route_joins.proofs.inner.are_joins_near.Statement.{statement}
-use Rattle.route_joins.proofs.inner.are_joins_near.Tie as tie
+use Rattle.whole.proofs.Places.{fails-end, fails-next}
+use Rattle.whole.specs.Places.{failsFrom}
+use Rattle.route_joins.proofs.inner.near_joins.Statement.{statement}
+use Rattle.route_joins.proofs.inner.near_joins.Tie as tie
 
 abbrev Inv-loop : tie.InvT-loop
 Inv-loop coordinates width closed limit count i₀ i =
     (i ≤ count) × ((count ≡ joinCount coordinates)
-    × (allFrom (λ j. isJoinNear limit (joinAt closed coordinates (toZ w64 width) j)) i (count - i) ≡ areJoinsNear limit closed coordinates (toZ w64 width)))
+    × (failsFrom (isNearAt limit closed coordinates (toZ w64 width)) i (count - i) ≡ nearJoins limit closed coordinates (toZ w64 width)))
 
 abbrev μ-loop : tie.MeasureT-loop
 μ-loop coordinates width closed limit count i₀ i = count - i
 
 -- whether the join at a place is near, with the width as the calls have it
 abbrev test : tie.At-loop Inv-loop μ-loop → ℕ → Bool
-test l j = let a = l .before .before .args in isJoinNear (a .limit) (joinAt (a .closed) (a .coordinates .now) (toZ w64 (ofZ w64 (a .width))) j)
+test l j = let a = l .before .before .args in isNearAt (a .limit) (a .closed) (a .coordinates .now) (toZ w64 (ofZ w64 (a .width))) j
 
 here : (c : tie.After-is-join-near Inv-loop μ-loop) → let l = c .before .before .before in test l (l .loop .i) ≡ c .is-join-near .result
 here c = cc
 
 -- the width is what it was
 all : (l : tie.At-loop Inv-loop μ-loop) → let a = l .before .before .args in
-    areJoinsNear (a .limit) (a .closed) (a .coordinates .now) (toZ w64 (ofZ w64 (a .width))) ≡ areJoinsNear (a .limit) (a .closed) (a .coordinates .now) (a .width)
+    nearJoins (a .limit) (a .closed) (a .coordinates .now) (toZ w64 (ofZ w64 (a .width))) ≡ nearJoins (a .limit) (a .closed) (a .coordinates .now) (a .width)
 all l = cc (thin-held (l .before .before .pre .1) .is)
 
 loop-holds : tie.Need-loop-holds Inv-loop μ-loop
-unfolding areJoinsNear
+unfolding nearJoins
 loop-holds c =
     let e = c .join-count .ensures in
     let whole : c .join-count .result - 0 ≡ joinCount (c .before .args .coordinates .now) = omega (arith, e) in
@@ -54,18 +53,18 @@ loop-again : tie.Need-loop-again Inv-loop μ-loop
 loop-again c =
     let l = c .before .before .before .before in
     let n = l .before .join-count .result in
-    (omega arith, (l .loop .inv .1 .0, sym (all-next (test l) n (l .loop .i) (omega arith) true (here (c .before) ∙ c .if1 .taken)) ∙ l .loop .inv .1 .1))
+    (omega arith, (l .loop .inv .1 .0, sym (fails-next (test l) n (l .loop .i) (omega arith) true (here (c .before) ∙ c .if1 .taken)) ∙ l .loop .inv .1 .1))
 
 returns : tie.Need-returns Inv-loop μ-loop
 returns c =
     let l = c .before .before .before .before in
     let n = l .before .join-count .result in
-    sym (all-next (test l) n (l .loop .i) (omega arith) false (here (c .before) ∙ c .if1 .left)) ∙ l .loop .inv .1 .1 ∙ all l
+    sym (fails-next (test l) n (l .loop .i) (omega arith) false (here (c .before) ∙ c .if1 .left)) ∙ l .loop .inv .1 .1 ∙ all l
 
 returns-2 : tie.Need-returns-2 Inv-loop μ-loop
 returns-2 c =
     let l = c .before in
-    sym (all-end (test l) (l .before .join-count .result) (l .loop .i) (omega arith)) ∙ l .loop .inv .1 .1 ∙ all l
+    sym (fails-end (test l) (l .before .join-count .result) (l .loop .i) (omega arith)) ∙ l .loop .inv .1 .1 ∙ all l
 
-pub are-joins-near-spec : {M : Type 1} → statement M
-are-joins-near-spec = tie.close (tie.spec Inv-loop μ-loop (λ c κs. search needs) loop-holds join-on-requires (λ c κs. search needs) (λ c. search needs) (λ c. omega arith) loop-again returns returns-2)
+pub near-joins-spec : {M : Type 1} → statement M
+near-joins-spec = tie.close (tie.spec Inv-loop μ-loop (λ c κs. search needs) loop-holds join-on-requires (λ c κs. search needs) (λ c. search needs) (λ c. omega arith) loop-again returns returns-2)

@@ -1,0 +1,78 @@
+-- 02's K9: what the entries tell of a route that is refused with 5 is its first join, in the order of the walk, that has a corner beyond the
+-- limit. Assumes nothing.
+use mathlib.Core.Path.{_≡_, refl, sym, ap, _∙_}
+use mathlib.Core.Logic.{_↔_}
+use mathlib.Core.Bool.{Bool, true, false, cond}
+use mathlib.Core.List.{List}
+use Prim.Native.Nat.{ℕ}
+use native.Mathlib.Omega.{arith}
+use borrow.Author.Tests.{eqb-true}
+use lib.Dec.{eqb}
+use lib.IntN.{ℤ}
+use Rattle.shapes.specs.declared.limits.Limits.{Limits}
+use Rattle.line_join.specs.Words.{BendTold}
+use Rattle.line_join.proofs.Named.{bend-as}
+use Rattle.board.specs.Boards.{told}
+use Rattle.coordinates.specs.Refusal.{routeRefusal}
+use Rattle.route_joins.specs.Joins.{joinAt, joinCount, routeBend}
+use Rattle.whole.specs.Places.{listFrom}
+use Rattle.route.specs.declared.Joins.{Joins}
+use Rattle.route.specs.declared.Listing.{Listing}
+use Rattle.route.specs.Joined.{joinsOf, segmentsIn}
+use Rattle.route.specs.Rows.{boardOn, noRows, drawnIn, rowsIn}
+use Rattle.route.specs.Answers.{drawRefusal, rowsAnswer, wholeAnswer, refusalOn, answerOn, noListing, listingOf, rowRefusal, rowAnswer}
+use Rattle.route.proofs.Refused.{draw-bend, row-before, answer-before}
+use Rattle.route.proofs.AllRows.{all-bend, rows-refusal, whole-before}
+
+module _ (limits : Limits) (closed : Bool) (cs : List ℤ) (w : ℤ) where
+  abbrev d : ℕ
+  d = drawRefusal limits closed cs w
+
+  abbrev b : ℕ
+  b = routeBend limits closed cs w
+
+  abbrev route : Joins
+  route = joinsOf (limits .corner) closed cs w
+
+  -- of an answer of the route with this refusal and this position
+  abbrev pub RouteTold : ℕ → ℕ → Type 0
+  RouteTold refusal bend = BendTold (routeRefusal (limits .point) closed cs w ≡ 0) (limits .corner) (joinAt closed cs w) (joinCount cs) refusal bend
+
+  told-as : {n m : ℕ} → (n ≡ 5) ↔ (d ≡ 5) → m ≡ b → RouteTold n m
+  told-as same e = rw e (bend-as (limits .corner) (joinAt closed cs w) (joinCount cs) same (draw-bend limits closed cs w))
+
+  -- what is not refused names none
+  none : d ≡ 0 → 0 ≡ b
+  none e = sym (draw-bend limits closed cs w .other (λ five. omega (arith, e, five)))
+
+  rows-by : (t : Bool) → eqb d 0 ≡ t → cond t (rowsIn route) (noRows d b) .bend ≡ b
+  unfolding rowsIn
+  rows-by true e = all-bend (noRows 0 0) (listFrom (drawnIn route) 0 (segmentsIn route)) refl ∙ none (eqb-true d 0 e)
+  rows-by false e = refl
+
+  pub rows-bend : RouteTold (rowsAnswer limits closed cs w .refusal) (rowsAnswer limits closed cs w .bend)
+  unfolding rowsAnswer
+  rows-bend = let is = rows-refusal limits closed cs w in told-as (λ e. sym is ∙ e, λ e. is ∙ e) (rows-by (eqb d 0) refl)
+
+  pub whole-bend : RouteTold (wholeAnswer limits closed cs w .refusal) (wholeAnswer limits closed cs w .bend)
+  unfolding wholeAnswer
+  whole-bend = told-as (whole-before limits closed cs w (omega arith) (λ e. omega arith)) refl
+
+  module _ (row : ℤ) (len : ℕ) where
+    abbrev on : ℕ
+    on = refusalOn (limits .corner) route row
+
+    abbrev listing : Listing
+    listing = listingOf (told (boardOn route row .board) len)
+
+    row-by : (t u : Bool) → eqb d 0 ≡ t → cond t (cond u listing (noListing on 0)) (noListing d b) .bend ≡ b
+    row-by true true e = none (eqb-true d 0 e)
+    row-by true false e = none (eqb-true d 0 e)
+    row-by false u e = refl
+
+    pub row-bend : RouteTold (rowAnswer limits closed cs w row len .refusal) (rowAnswer limits closed cs w row len .bend)
+    unfolding rowAnswer answerOn
+    row-bend =
+        let entry = answer-before limits closed cs w row len {m = 5} (omega arith) (λ e. omega arith) in
+        let number = row-before limits closed cs w row {m = 5} (omega arith) (λ e. omega arith) (λ e. omega arith) in
+        told-as (λ e. number .0 (entry .0 e), λ e. entry .1 (number .1 e)) (row-by (eqb d 0) (eqb on 0) refl)
