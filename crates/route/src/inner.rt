@@ -72,18 +72,19 @@ fn no_joins() -> Joins
     }
 }
 
-/// How many joins, from the first on, have their corners within the limit: `near` of those before place `i`, and whether the one at
-/// that place has.
-fn near_with(near: usize, i: usize, passes: bool) -> usize
+/// How many joins, from the first on, have their corners within the limit, once that at place `i` is looked at: `counted` were it
+/// before, and one more are it where all were and that one `passes`.
+fn near_with(counted: usize, i: usize, passes: bool) -> usize
     requires { ⌜ i < routePoints ⌝ }
-    ensures { λ r. ⌜ r ≡ passedWith near i passes ⌝ }
+    ensures { λ r. ⌜ r ≡ passedWith counted i passes ⌝ }
 {
-    if near == i {
-        if passes {
+    if passes {
+        if counted == i {
             return i + 1;
         }
+        return counted;
     }
-    near
+    counted
 }
 
 /// The joins of a route, and how many of them, from the first on, have all their corners within the limit.

@@ -197,8 +197,9 @@ pub fn step_at(
                 place: further,
             };
         }
+        let bend = far_bend(segment, limits.corner);
         return Placed {
-            step: Step::Refused(CORNER, far_bend(segment, limits.corner)),
+            step: Step::Refused(CORNER, bend),
             place,
         };
     }

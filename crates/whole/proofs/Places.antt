@@ -106,14 +106,15 @@ module _ (test : ℕ → Bool) where
   counted-by n passed i true false le more e f =
       let same = eqb-true passed i e in
       rw (e, ne-eqb passed (i + 1) (λ z. omega (arith, same, z)), fails-next n i more false f) same
-  counted-by n passed i false u le more e f = let other = eqb-false passed i e in rw (e, ne-eqb passed (i + 1) (λ z. omega (arith, other, z, le)))
+  counted-by n passed i false true le more e f = let other = eqb-false passed i e in rw (e, ne-eqb passed (i + 1) (λ z. omega (arith, other, z, le)))
+  counted-by n passed i false false le more e f = let other = eqb-false passed i e in rw (e, ne-eqb passed (i + 1) (λ z. omega (arith, other, z, le)))
 
   pub counted-more : (n passed i : ℕ) → passed ≤ i → i < n → Counted n (passedWith passed i (test i)) (i + 1) ≡ Counted n passed i
   counted-more n passed i le more = counted-by n passed i (eqb passed i) (test i) le more refl refl
 
   pub counted-most : (passed i : ℕ) (t : Bool) → passed ≤ i → passedWith passed i t ≤ i + 1
   unfolding passedWith
-  counted-most passed i t le = either (λ m. m ≤ i + 1) (eqb passed i && t) (λ e. omega arith) (λ e. omega arith)
+  counted-most passed i t le = either (λ m. m ≤ i + 1) (t && eqb passed i) (λ e. omega arith) (λ e. omega arith)
 
   pub counted-done : (n passed : ℕ) → Counted n passed n ≡ passed
   counted-done n passed = by (eqb passed n) refl

@@ -28,7 +28,7 @@ failsFrom test i (suc left) = cond (test i) (failsFrom test (suc i) left) i
 
 -- how many from the first on pass it, where `passed` of those before i do: one more where all did and i does
 unfoldable pub passedWith : ℕ → ℕ → Bool → ℕ
-passedWith passed i t = cond (eqb passed i && t) (i + 1) passed
+passedWith passed i t = cond (t && eqb passed i) (i + 1) passed
 
 -- a place below n that fails it, and is the first
 pub record FirstFailing (test : ℕ → Bool) (n place : ℕ) : Type 0 where
