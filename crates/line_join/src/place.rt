@@ -7,15 +7,7 @@ use crate::Join;
 pub fn standing_at(join: Join, position: usize) -> Join
     ensures { λ r. ⌜ r ≡ standingAt position join ⌝ }
 {
-    let kind = join.kind;
-    let origins = join.origins;
-    let ending = join.ending;
-    let starting = join.starting;
-    Join {
-        kind,
-        origins,
-        position,
-        ending,
-        starting,
-    }
+    let mut placed = join;
+    placed.position = position;
+    placed
 }

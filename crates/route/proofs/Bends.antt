@@ -1,6 +1,6 @@
 -- 02's K9: what the entries tell of a route that is refused with 5 is its first join, in the order of the walk, that has a corner beyond the
 -- limit. Assumes nothing.
-use mathlib.Core.Path.{_≡_, refl, sym, ap, _∙_}
+use mathlib.Core.Path.{_≡_, refl, sym, _∙_}
 use mathlib.Core.Logic.{_↔_}
 use mathlib.Core.Bool.{Bool, true, false, cond}
 use mathlib.Core.List.{List}
@@ -20,19 +20,19 @@ use Rattle.route.specs.declared.Joins.{Joins}
 use Rattle.route.specs.declared.Listing.{Listing}
 use Rattle.route.specs.Joined.{joinsOf, segmentsIn}
 use Rattle.route.specs.Rows.{boardOn, noRows, drawnIn, rowsIn}
-use Rattle.route.specs.Answers.{drawRefusal, rowsAnswer, wholeAnswer, refusalOn, answerOn, noListing, listingOf, rowRefusal, rowAnswer}
+use Rattle.route.specs.Answers.{drawRefusal, rowsAnswer, wholeAnswer, refusalOn, answerOn, noListing, listingOf, rowAnswer}
 use Rattle.route.proofs.Refused.{draw-bend, row-before, answer-before}
 use Rattle.route.proofs.AllRows.{all-bend, rows-refusal, whole-before}
 
 module _ (limits : Limits) (closed : Bool) (cs : List ℤ) (w : ℤ) where
-  abbrev d : ℕ
-  d = drawRefusal limits closed cs w
-
   abbrev b : ℕ
   b = routeBend limits closed cs w
 
-  abbrev route : Joins
-  route = joinsOf (limits .corner) closed cs w
+  abbrev joins : Joins
+  joins = joinsOf (limits .corner) closed cs w
+
+  abbrev d : ℕ
+  d = drawRefusal limits closed cs w
 
   -- of an answer of the route with this refusal and this position
   abbrev pub RouteTold : ℕ → ℕ → Type 0
@@ -45,9 +45,9 @@ module _ (limits : Limits) (closed : Bool) (cs : List ℤ) (w : ℤ) where
   none : d ≡ 0 → 0 ≡ b
   none e = sym (draw-bend limits closed cs w .other (λ five. omega (arith, e, five)))
 
-  rows-by : (t : Bool) → eqb d 0 ≡ t → cond t (rowsIn route) (noRows d b) .bend ≡ b
+  rows-by : (t : Bool) → eqb d 0 ≡ t → cond t (rowsIn joins) (noRows d b) .bend ≡ b
   unfolding rowsIn
-  rows-by true e = all-bend (noRows 0 0) (listFrom (drawnIn route) 0 (segmentsIn route)) refl ∙ none (eqb-true d 0 e)
+  rows-by true e = all-bend (noRows 0 0) (listFrom (drawnIn joins) 0 (segmentsIn joins)) refl ∙ none (eqb-true d 0 e)
   rows-by false e = refl
 
   pub rows-bend : RouteTold (rowsAnswer limits closed cs w .refusal) (rowsAnswer limits closed cs w .bend)
@@ -60,10 +60,10 @@ module _ (limits : Limits) (closed : Bool) (cs : List ℤ) (w : ℤ) where
 
   module _ (row : ℤ) (len : ℕ) where
     abbrev on : ℕ
-    on = refusalOn (limits .corner) route row
+    on = refusalOn (limits .corner) joins row
 
     abbrev listing : Listing
-    listing = listingOf (told (boardOn route row .board) len)
+    listing = listingOf (told (boardOn joins row .board) len)
 
     row-by : (t u : Bool) → eqb d 0 ≡ t → cond t (cond u listing (noListing on 0)) (noListing d b) .bend ≡ b
     row-by true true e = none (eqb-true d 0 e)

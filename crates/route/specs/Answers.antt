@@ -1,6 +1,6 @@
 -- The entries' answers, for any limits: 1 to 4, 12 and 5 for the route, then 6 for a row outside, then 8 for a row that has no room. With 5 comes
 -- the position of a join.
-use mathlib.Core.Bool.{Bool, true, false, cond}
+use mathlib.Core.Bool.{Bool, false, cond}
 use mathlib.Core.List.{List}
 use Prim.Native.Nat.{ℕ}
 use lib.Dec.{eqb}

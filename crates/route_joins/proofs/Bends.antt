@@ -1,6 +1,6 @@
 -- 02's K9: where the joins of a route stand, and the bend that 5 names. Assumes nothing.
 use mathlib.Core.Path.{_≡_, refl, sym, subst, _∙_}
-use mathlib.Core.Logic.{_↔_, _≢_}
+use mathlib.Core.Logic.{_↔_}
 use mathlib.Core.Bool.{Bool, true, false, cond}
 use mathlib.Core.List.{List}
 use Prim.Native.Nat.{ℕ, _+_, _-_}
@@ -18,7 +18,6 @@ use Rattle.line_join.specs.Words.{Named, BendTold}
 use Rattle.line_join.proofs.Room.{join-near-iff}
 use Rattle.line_join.proofs.Standing.{taken-off, join-unplaced, start-unplaced, end-unplaced}
 use Rattle.line_join.proofs.Named.{bend-told}
-use Rattle.thick_segment.specs.declared.Segment.{Segment}
 use Rattle.coordinates.specs.Points.{pointAt, pointCount, placeAfter}
 use Rattle.coordinates.specs.Refusal.{routeRefusal}
 use Rattle.route_joins.specs.Joins.{bendAt, openJoin, closedJoin, joinOn, joinAt, joinCount, endPlace, segmentOf, openSegment, closedSegment, standing, bare, isNearAt, areJoinsNear, nearJoins, routeBend}
