@@ -1,5 +1,5 @@
 -- The closed walk, segment by segment. Refusals are those of the list and the width, and then 5. Assumes nothing.
-use mathlib.Core.Path.{_≡_, refl}
+use mathlib.Core.Path.{_≡_, refl, ap}
 use mathlib.Core.Logic.{_↔_, _≢_}
 use mathlib.Core.Bool.{true}
 use mathlib.Core.List.{List}
@@ -19,7 +19,7 @@ use Rattle.coordinates.specs.Refusal.{routeRefusal, Accepted}
 use Rattle.coordinates.proofs.Laws.{accepted-exactly}
 use Rattle.route_joins.specs.Joins.{endPlace, closedSegment, closedCount}
 use Rattle.route_joins.specs.Steps.{StepTold, SegmentBySegment}
-use Rattle.route_joins.proofs.Walks.{place-kept, route-told, route-in-turn, route-five, route-other, route-step-bend, route-step-positions, refusal-told}
+use Rattle.route_joins.proofs.Walks.{place-kept, route-told, route-in-turn, route-five, route-other, route-step-bend, route-step-positions, route-refused-none, refusal-told}
 use Rattle.closed_thick_segment_iter.specs.declared.Walk.{Walk}
 use Rattle.closed_thick_segment_iter.specs.declared.Started.{Started}
 use Rattle.closed_thick_segment_iter.specs.Walks.{closedStart, closedStep, afterClosed}
@@ -69,6 +69,14 @@ module _ (limits : Limits) (cs : List ℤ) (walk : Walk) where
   pub step-kept : closedStep limits cs walk .found ≢ 1 → afterClosed limits cs walk ≡ walk
   unfolding afterClosed
   step-kept other = rw (place-kept (closedStep limits cs walk) (walk .place) other)
+
+  -- so a refused step, asked again, answers the same: with 5 the same bend
+  none-drawn : closedStep limits cs walk .refusal ≢ 0 → closedStep limits cs walk .found ≢ 1
+  unfolding closedStep
+  none-drawn = route-refused-none limits true cs (walk .width) (walk .offset) (walk .place)
+
+  pub step-again : closedStep limits cs walk .refusal ≢ 0 → closedStep limits cs (afterClosed limits cs walk) ≡ closedStep limits cs walk
+  step-again some = ap (closedStep limits cs) (step-kept (none-drawn some))
 
 -- ---- a start is refused as the list and the width are; refused, its walk is all 0
 

@@ -214,6 +214,18 @@ module _ (k refusal count : ℕ) (segment : ℕ → Segment) (place : ℕ) where
   unfolding stepAt checked
   step-positions = joins-drawn (eqb refusal 0) (ltb place count) (isSegmentNear k (segment place))
 
+  -- where a step is refused no segment is answered
+  none-drawn : (t u v : Bool) → values t u v .refusal ≢ 0 → values t u v .found ≢ 1
+  unfolding stepValues
+  none-drawn true true true some e = some refl
+  none-drawn true true false some e = omega arith
+  none-drawn true false v some e = omega arith
+  none-drawn false u v some e = omega arith
+
+  pub refused-none : stepAt k refusal count segment place .refusal ≢ 0 → stepAt k refusal count segment place .found ≢ 1
+  unfolding stepAt checked
+  refused-none = none-drawn (eqb refusal 0) (ltb place count) (isSegmentNear k (segment place))
+
 -- ---- a walk along a route, open or closed
 
 module _ (limits : Limits) (closed : Bool) (cs : List ℤ) (w : ℤ) (o : Offset) where
@@ -243,6 +255,10 @@ module _ (limits : Limits) (closed : Bool) (cs : List ℤ) (w : ℤ) (o : Offset
   route-step-positions place e =
       let h = step-positions (limits .corner) _ _ _ place e in
       (h .0 ∙ join-position closed cs w o place, h .1 ∙ join-position closed cs w o (endPlace closed (pointCount cs) place))
+
+  pub route-refused-none : (place : ℕ) → routeStep limits closed cs w o place .refusal ≢ 0 → routeStep limits closed cs w o place .found ≢ 1
+  unfolding routeStep
+  route-refused-none place = refused-none (limits .corner) _ _ _ place
 
   -- what a step answers at a place, whatever the place is
   pub route-told : (place : ℕ) → StepTold (limits .corner) (routeRefusal (limits .point) closed cs w) (segmentCount closed cs) (segmentOf closed cs w o) place (routeStep limits closed cs w o place)

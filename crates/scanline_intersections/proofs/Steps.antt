@@ -22,7 +22,7 @@ use Rattle.coordinates.proofs.Laws.{accepted-exactly}
 use Rattle.route_joins.specs.declared.Step.the-variants.{Drawn}
 use Rattle.route_joins.specs.Joins.{endPlace, standing, openSegment, openCount}
 use Rattle.route_joins.specs.Steps.{stepValues, afterSteps, StepTold, SegmentBySegment}
-use Rattle.route_joins.proofs.Walks.{place-kept, route-told, route-in-turn, route-five, route-other, route-step-bend, route-step-positions}
+use Rattle.route_joins.proofs.Walks.{place-kept, route-told, route-in-turn, route-five, route-other, route-step-bend, route-step-positions, route-refused-none}
 use Rattle.route_joins.proofs.Open.{segment-stands}
 use Rattle.thick_segment_iter.specs.Walks.{openStep, afterOpen}
 use Rattle.scanline_intersections.specs.declared.Intersections.{Intersections}
@@ -67,6 +67,14 @@ module _ (limits : Limits) (cs : List ℤ) (walk : Intersections) where
   pub step-kept : polylineStep limits cs walk .found ≢ 1 → afterPolyline limits cs walk ≡ walk
   unfolding afterPolyline
   step-kept other = rw (place-kept (polylineStep limits cs walk) (walk .place) other)
+
+  -- so a refused step, asked again, answers the same: with 5 the same bend
+  none-drawn : polylineStep limits cs walk .refusal ≢ 0 → polylineStep limits cs walk .found ≢ 1
+  unfolding polylineStep
+  none-drawn = route-refused-none limits false cs (walk .width) None (walk .place)
+
+  pub step-again : polylineStep limits cs walk .refusal ≢ 0 → polylineStep limits cs (afterPolyline limits cs walk) ≡ polylineStep limits cs walk
+  step-again some = ap (polylineStep limits cs) (step-kept (none-drawn some))
 
   -- ---- the refusals of a step: any number but 5 as of the list and the width
 

@@ -1,5 +1,5 @@
 -- The open walk, segment by segment. Refusals are those of the list and the width, and then 5. Assumes nothing.
-use mathlib.Core.Path.{_≡_, refl}
+use mathlib.Core.Path.{_≡_, refl, ap}
 use mathlib.Core.Logic.{_↔_, _≢_}
 use mathlib.Core.Bool.{false}
 use mathlib.Core.List.{List}
@@ -17,7 +17,7 @@ use Rattle.coordinates.specs.Refusal.{routeRefusal, Accepted}
 use Rattle.coordinates.proofs.Laws.{accepted-exactly}
 use Rattle.route_joins.specs.Joins.{endPlace, openSegment, openCount}
 use Rattle.route_joins.specs.Steps.{StepTold, SegmentBySegment}
-use Rattle.route_joins.proofs.Walks.{place-kept, route-told, route-in-turn, route-five, route-other, route-step-bend, route-step-positions, refusal-told}
+use Rattle.route_joins.proofs.Walks.{place-kept, route-told, route-in-turn, route-five, route-other, route-step-bend, route-step-positions, route-refused-none, refusal-told}
 use Rattle.thick_segment_iter.specs.declared.Walk.{Walk}
 use Rattle.thick_segment_iter.specs.declared.Started.{Started}
 use Rattle.thick_segment_iter.specs.Walks.{openStart, openStep, afterOpen}
@@ -67,6 +67,14 @@ module _ (limits : Limits) (cs : List ℤ) (walk : Walk) where
   pub step-kept : openStep limits cs walk .found ≢ 1 → afterOpen limits cs walk ≡ walk
   unfolding afterOpen
   step-kept other = rw (place-kept (openStep limits cs walk) (walk .place) other)
+
+  -- so a refused step, asked again, answers the same: with 5 the same bend
+  none-drawn : openStep limits cs walk .refusal ≢ 0 → openStep limits cs walk .found ≢ 1
+  unfolding openStep
+  none-drawn = route-refused-none limits false cs (walk .width) None (walk .place)
+
+  pub step-again : openStep limits cs walk .refusal ≢ 0 → openStep limits cs (afterOpen limits cs walk) ≡ openStep limits cs walk
+  step-again some = ap (openStep limits cs) (step-kept (none-drawn some))
 
 -- ---- a start is refused as the list and the width are; refused, its walk is all 0
 
