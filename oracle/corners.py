@@ -1,8 +1,8 @@
 #!/usr/bin/env python3
 """oracle/corners.py: what the program test_corners must write, by the independent calculation.
 
-The questions are those of crates/test_corners/src/main.rt: document 01's corners marked "Run only", and a skeleton whose box has
-other rows than its drawn line.
+The questions are those of crates/test_corners/src/main.rt: document 01's corners marked "Run only", a skeleton whose box has
+other rows than its drawn line, and routes with joins that are too far where corners may go no farther than 45.
 """
 
 import sys
@@ -29,6 +29,19 @@ RIGHT_ANGLE = (0, 0, 60, 0, 60, 60)
 AT_LIMITS = (511, -511, -511, -511, -511, 511)
 # A closed route whose second segment is a skeleton with the offset Right, at width 2; its edges differ.
 TRIANGLE = (-5, -3, -1, -1, 3, -5)
+# Of each whether it is closed, and its coordinates. Its joins that are too far, at width 5: the end; the start, and the end; the bends
+# behind the first; none; all, and a doubled point; the bend at 0, where the closing segment ends; the second point alone; the last two.
+FAR = (
+    (False, (0, 0, 40, 0, 40, 30, 60, 0)),
+    (False, (50, 0, 0, 0, 60, 0)),
+    (False, (0, 0, 20, 0, 20, 44, 0, 44)),
+    (False, (0, 0, 40, 0)),
+    (False, (60, 0, 60, 0, 0, 0)),
+    (True, (46, 0, 0, 20, 0, 0)),
+    (True, (0, 0, 0, 50)),
+    (True, (0, 0, 20, 0, 20, 44, 0, 44)),
+)
+FAR_LIMIT = 45
 # What stands in a lent list before.
 UNTOUCHED = -7
 
@@ -153,6 +166,41 @@ def skeleton_lines():
         yield f"segment {place}: skeleton {skeleton}, rows of the box {boxed}, of what is drawn {drawn}"
 
 
+def told(refuse, *asked):
+    """What is refused, or nothing."""
+    try:
+        refuse(*asked)
+    except exact.Refused as refusal:
+        return refusal
+    return None
+
+
+def far_line(closed, coordinates):
+    """What the route is refused with as a whole, and each of its first four steps."""
+
+    def segments():
+        points = exact.route(5, len(coordinates), coordinates, closed)
+        return (walks.closed_segments if closed else walks.open_segments)(points, 5)
+
+    def step(place):
+        found = segments()
+        if place < len(found):
+            exact.refuse_corners(*found[place])
+        return "segment" if place < len(found) else "end"
+
+    whole = told(lambda: exact.refuse_corners(*(join for segment in segments() for join in segment)))
+    steps = [told(step, place) for place in range(4)]
+    words_of = [f"refused {refusal}" if refusal else step(place) for place, refusal in enumerate(steps)]
+    name = "closed" if closed else "open"
+    return f"corners within {FAR_LIMIT}, {name} {words(*coordinates)}: {verdict(whole)}; {', '.join(words_of)}"
+
+
+def far_lines():
+    limit, exact.CORNER_LIMIT = exact.CORNER_LIMIT, FAR_LIMIT
+    yield from [far_line(*asked) for asked in FAR]
+    exact.CORNER_LIMIT = limit
+
+
 def lines():
     yield from miter_lines()
     for width, bend in bends():
@@ -164,6 +212,7 @@ def lines():
             yield f"zigzag of {strokes} strokes: {line}"
     for line in skeleton_lines():
         yield f"closed {words(*TRIANGLE)}, Right, {line}"
+    yield from far_lines()
 
 
 if __name__ == "__main__":

@@ -259,8 +259,13 @@ def route(width, count, coordinates, closed=False):
 
 
 def walk_words(found):
-    """Of each segment its two joins, then the end."""
-    parts = [" / ".join(map(join_words, segment)) for segment in found]
+    """Of each segment its two joins, then the end, or the refusal of the first segment that has a join too far."""
+    parts = []
+    for segment in found:
+        try:
+            parts.append(" / ".join(map(join_words, segment)))
+        except Refused as refusal:
+            return " | ".join([*parts, f"refused {refusal}"])
     return " | ".join([*parts, "end"])
 
 
@@ -285,8 +290,11 @@ def merged_words(spans):
     return words(*flat(spans), "end")
 
 
-def merged_spans(*numbers):
-    return merged_words(walks.merged(spans_of_row(*numbers)))
+def merged_spans(width, offset, row, count, *coordinates):
+    """The walk's start refuses the row, and only then its `next` a join that is too far."""
+    route(width, count, coordinates)
+    refuse(6, beyond(CORNER_LIMIT, [row]))
+    return merged_words(walks.merged(spans_of_row(width, offset, row, count, *coordinates)))
 
 
 # Route files.

@@ -1,15 +1,20 @@
 -- 02's K9: one bend at most is named, and what an answer that is refused with 5 tells of it. Assumes nothing.
 use mathlib.Core.Path.{_≡_, refl, sym, ap, subst, _∙_}
 use mathlib.Core.Logic.{_↔_, _≢_, ⊎-elim}
-use mathlib.Core.Bool.{Bool, true}
+use mathlib.Core.Bool.{Bool, true, cond}
 use Prim.Native.Nat.{ℕ}
 use native.Mathlib.Omega.{arith}
-use lib.Dec.{lit<}
+use lib.Dec.{eqb, lit<}
 use Rattle.whole.proofs.Linear.{le-or-lt}
-use Rattle.whole.proofs.Tests.{clash, else-true, Chosen, chosen-exactly}
+use Rattle.whole.proofs.Tests.{clash, else-true, either, eqb-iff, Chosen, chosen-exactly}
 use Rattle.line_join.specs.declared.Join.{Join}
 use Rattle.line_join.specs.Caps.{JoinNear}
 use Rattle.line_join.specs.Words.{Named, BendTold}
+
+-- an answer that is chosen by its refusal n tells the bend of the refused one, if that is 0 where there is none
+pub chosen-bend : {A : Type 0} (bend : A → ℕ) (n : ℕ) {answer refused : A} {b : ℕ} → bend answer ≡ 0 → bend refused ≡ b → (n ≡ 0 → b ≡ 0) → bend (cond (eqb n 0) answer refused) ≡ b
+chosen-bend {A} bend n {answer} {refused} {b} none some unnamed =
+    either (λ a. bend a ≡ b) (eqb n 0) (λ e. none ∙ sym (unnamed (eqb-iff n 0 .0 e))) (λ e. some)
 
 module _ (k : ℕ) (join : ℕ → Join) (count : ℕ) where
   pub named-one : {p q : ℕ} → Named k join count p → Named k join count q → p ≡ q

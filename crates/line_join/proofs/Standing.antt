@@ -29,7 +29,7 @@ taken-off i {j} e = ap (λ p. standingAt p j) (sym e)
 
 -- ---- the three constructors
 
-abbrev Unplaced : Join → Type 0
+abbrev pub Unplaced : Join → Type 0
 Unplaced j = j .position ≡ 0
 
 module _ (first second : Edges) (mid : Point) (w : ℤ) where

@@ -11,11 +11,13 @@ use lib.Dec.{eqb}
 use lib.IntN.{ℤ}
 use Rattle.shapes.specs.declared.limits.Limits.{Limits}
 use Rattle.line_join.specs.Words.{BendTold}
-use Rattle.line_join.proofs.Named.{bend-as}
+use Rattle.line_join.proofs.Named.{chosen-bend, bend-as}
 use Rattle.board.specs.Boards.{told}
 use Rattle.coordinates.specs.Refusal.{routeRefusal}
 use Rattle.route_joins.specs.Joins.{joinAt, joinCount, routeBend}
 use Rattle.whole.specs.Places.{listFrom}
+use Rattle.whole.proofs.Tests.{either}
+use Rattle.route.specs.declared.RowRange.{RowRange}
 use Rattle.route.specs.declared.Joins.{Joins}
 use Rattle.route.specs.declared.Listing.{Listing}
 use Rattle.route.specs.Joined.{joinsOf, segmentsIn}
@@ -42,37 +44,28 @@ module _ (limits : Limits) (closed : Bool) (cs : List ℤ) (w : ℤ) where
   told-as same e = rw e (bend-as (limits .corner) (joinAt closed cs w) (joinCount cs) same (draw-bend limits closed cs w))
 
   -- what is not refused names none
-  none : d ≡ 0 → 0 ≡ b
-  none e = sym (draw-bend limits closed cs w .other (λ five. omega (arith, e, five)))
+  none : d ≡ 0 → b ≡ 0
+  none e = draw-bend limits closed cs w .other (λ five. omega (arith, e, five))
 
-  rows-by : (t : Bool) → eqb d 0 ≡ t → cond t (rowsIn joins) (noRows d b) .bend ≡ b
-  unfolding rowsIn
-  rows-by true e = all-bend (noRows 0 0) (listFrom (drawnIn joins) 0 (segmentsIn joins)) refl ∙ none (eqb-true d 0 e)
-  rows-by false e = refl
+  rows-is : rowsAnswer limits closed cs w .bend ≡ b
+  unfolding rowsAnswer rowsIn
+  rows-is = chosen-bend {A = RowRange} (λ r. r .bend) d (all-bend (noRows 0 0) (listFrom (drawnIn joins) 0 (segmentsIn joins)) refl) refl none
 
   pub rows-bend : RouteTold (rowsAnswer limits closed cs w .refusal) (rowsAnswer limits closed cs w .bend)
-  unfolding rowsAnswer
-  rows-bend = let is = rows-refusal limits closed cs w in told-as (λ e. sym is ∙ e, λ e. is ∙ e) (rows-by (eqb d 0) refl)
+  rows-bend = let is = rows-refusal limits closed cs w in told-as (λ e. sym is ∙ e, λ e. is ∙ e) rows-is
 
   pub whole-bend : RouteTold (wholeAnswer limits closed cs w .refusal) (wholeAnswer limits closed cs w .bend)
   unfolding wholeAnswer
   whole-bend = told-as (whole-before limits closed cs w (omega arith) (λ e. omega arith)) refl
 
   module _ (row : ℤ) (len : ℕ) where
-    abbrev on : ℕ
-    on = refusalOn (limits .corner) joins row
-
-    abbrev listing : Listing
-    listing = listingOf (told (boardOn joins row .board) len)
-
-    row-by : (t u : Bool) → eqb d 0 ≡ t → cond t (cond u listing (noListing on 0)) (noListing d b) .bend ≡ b
-    row-by true true e = none (eqb-true d 0 e)
-    row-by true false e = none (eqb-true d 0 e)
-    row-by false u e = refl
+    row-is : rowAnswer limits closed cs w row len .bend ≡ b
+    unfolding rowAnswer answerOn
+    row-is =
+        chosen-bend {A = Listing} (λ l. l .bend) d (either {A = Listing} (λ l. l .bend ≡ 0) (eqb (refusalOn (limits .corner) joins row) 0) (λ e. refl) (λ e. refl)) refl none
 
     pub row-bend : RouteTold (rowAnswer limits closed cs w row len .refusal) (rowAnswer limits closed cs w row len .bend)
-    unfolding rowAnswer answerOn
     row-bend =
         let entry = answer-before limits closed cs w row len {m = 5} (omega arith) (λ e. omega arith) in
         let number = row-before limits closed cs w row {m = 5} (omega arith) (λ e. omega arith) (λ e. omega arith) in
-        told-as (λ e. number .0 (entry .0 e), λ e. entry .1 (number .1 e)) (row-by (eqb d 0) (eqb on 0) refl)
+        told-as (λ e. number .0 (entry .0 e), λ e. entry .1 (number .1 e)) row-is

@@ -72,8 +72,8 @@ fn no_joins() -> Joins
     }
 }
 
-/// How many joins, from the first on, have their corners within the limit, once that at place `i` is looked at: `counted` were it
-/// before, and one more are it where all were and that one `passes`.
+/// How many joins, from the first on, have their corners within the limit: `counted` of those before place `i`, and one more if all
+/// of those have and the join at that place `passes`.
 fn near_with(counted: usize, i: usize, passes: bool) -> usize
     requires { ⌜ i < routePoints ⌝ }
     ensures { λ r. ⌜ r ≡ passedWith counted i passes ⌝ }

@@ -16,7 +16,7 @@ use Rattle.line_join.specs.declared.Join.{Join}
 use Rattle.line_join.specs.Standing.{standingAt}
 use Rattle.line_join.specs.Words.{Named, BendTold}
 use Rattle.line_join.proofs.Room.{join-near-iff}
-use Rattle.line_join.proofs.Standing.{taken-off, join-unplaced, start-unplaced, end-unplaced}
+use Rattle.line_join.proofs.Standing.{taken-off, Unplaced, join-unplaced, start-unplaced, end-unplaced}
 use Rattle.line_join.proofs.Named.{bend-told}
 use Rattle.coordinates.specs.Points.{pointAt, pointCount, placeAfter}
 use Rattle.coordinates.specs.Refusal.{routeRefusal}
@@ -41,9 +41,6 @@ unfolding segmentOf joinOn endPlace
 closed-positions cs w o k = (refl, refl)
 
 -- ---- without positions
-
-abbrev Unplaced : Join → Type 0
-Unplaced j = j .position ≡ 0
 
 pub open-unplaced : (cs : List ℤ) (w : ℤ) (i : ℕ) → Unplaced (openJoin cs w i)
 unfolding openJoin bendAt

@@ -6,12 +6,14 @@ ghost use Rattle.shapes.specs.Limits.{lineLimit, boardRuns, Roomy};
 ghost use Rattle.route_file.specs.Form.{Formed};
 ghost use Rattle.route.specs.Joined.{Kept};
 ghost use Rattle.route.specs.Rows.{RowsNear, boardOn, rowsRefusal};
+ghost use Rattle.route.specs.Answers.{wholeAnswer};
 ghost use Rattle.row_text.specs.Pixels.{litOn, litIn, routePixels, entryPixels, allPixels};
 use board::Board;
 use board::Run;
 use board::inner::total_of;
 use route::Joins;
 use route::RowRange;
+use route::Verdict;
 use route::inner::prepare;
 use route::inner::row_at;
 use route::inner::row_board;
@@ -83,11 +85,21 @@ fn print_rows(k: usize, route: Joins, rows: RowRange) -> i64
     sum.total
 }
 
-/// Prints the line of a refused route; behind 5 stands the position of the bend.
-fn print_refused(k: usize, number: u64, bend: usize) {
+/// Prints the line of a refused route; behind 5 stands the position of the bend. The route is handed in for the promise alone that
+/// the verdict is its own.
+fn print_refused(
+    k: usize,
+    coordinates: &[i64],
+    width: i64,
+    closed: bool,
+    limits: Limits,
+    verdict: Verdict,
+)
+    requires { ⌜ verdict ≡ wholeAnswer limits closed (now coordinates) width ⌝ }
+{
     say_count(k as u64);
     say(b" ");
-    say_refused_at(number, bend);
+    say_refused_at(verdict.refusal, verdict.bend);
     say(b"\n");
 }
 
@@ -98,14 +110,22 @@ fn print_route(k: usize, coordinates: &[i64], width: i64, closed: bool, limits: 
 {
     let route = prepare(coordinates, width, closed, limits);
     if route.refusal != 0 {
-        print_refused(k, route.refusal, route.bend);
+        let verdict = Verdict {
+            refusal: route.refusal,
+            bend: route.bend,
+        };
+        print_refused(k, coordinates, width, closed, limits, verdict);
         return 0;
     }
     let joins = route.joins;
     let rows = rows_of(joins);
     let number = rows_refusal(joins, rows);
     if number != 0 {
-        print_refused(k, number, 0);
+        let verdict = Verdict {
+            refusal: number,
+            bend: 0,
+        };
+        print_refused(k, coordinates, width, closed, limits, verdict);
         return 0;
     }
     print_rows(k, joins, rows)

@@ -22,8 +22,8 @@ pub fn print_input() {
     print_file(&file[..n]);
 }
 
-/// Prints how many routes a file has; of each its runs, rows ascending, or its refusal; and the pixels of all printed runs, which it
-/// also answers. 9 if the file's form is wrong, or it has more than 65,535 bytes: `refused 9` alone is printed, and there are none.
+/// Prints how many routes a file has; of each its runs, rows ascending, or its refusal, `k refused N`, and with 5 the position of the
+/// bend behind it, `k refused 5 P`; and the pixels of all printed runs, which it also answers. 9 if the file's form is wrong, or it has more than 65,535 bytes: `refused 9` alone is printed, and there are none.
 pub fn print_file(file: &[u8]) -> i64
     ensures { λ r. ⌜ r ≡ filePixels panelLimits (now (file .entry)) ⌝ }
 {

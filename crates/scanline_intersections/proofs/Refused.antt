@@ -19,6 +19,7 @@ use Rattle.scanline.specs.Answers.{spanRefusal}
 use Rattle.scanline.proofs.Answers.{span-six, span-seven, span-none}
 use Rattle.line_join.specs.Caps.{JoinNear}
 use Rattle.line_join.specs.Words.{BendTold}
+use Rattle.line_join.proofs.Named.{chosen-bend}
 use Rattle.coordinates.specs.Refusal.{routeRefusal, Accepted}
 use Rattle.coordinates.specs.Neighbours.{Doubled}
 use Rattle.coordinates.proofs.Laws.{refused-most, accepted-exactly, doubled-refused}
@@ -33,15 +34,15 @@ use Rattle.scanline_intersections.specs.Merging.{walkOf, mergedNext, nex
 use Rattle.scanline_intersections.specs.Answers.{startRefusal, polylineStart, nextRefusal, nextAnswer}
 
 -- what is merged is no refusal
-abbrev Free : Merged → Type 0
-Free m = (m .refusal ≡ 0) × (m .bend ≡ 0)
+abbrev Unrefused : Merged → Type 0
+Unrefused m = (m .refusal ≡ 0) × (m .bend ≡ 0)
 
-merged-none : (k : ℕ) (w : ℤ) (s : Span) (os : List Span) → Free (mergedNext k w s os)
+merged-none : (k : ℕ) (w : ℤ) (s : Span) (os : List Span) → Unrefused (mergedNext k w s os)
 unfolding mergedNext
 merged-none k w s [] = (refl, refl)
-merged-none k w s (o ∷ os) = either Free (tryExtended s o .joined) (λ e. merged-none (k + 1) w (tryExtended s o .span) os) (λ e. (refl, refl))
+merged-none k w s (o ∷ os) = either Unrefused (tryExtended s o .joined) (λ e. merged-none (k + 1) w (tryExtended s o .span) os) (λ e. (refl, refl))
 
-merged-fine : (cs : List ℤ) (walk : Intersections) → Free (nextMerged cs walk)
+merged-fine : (cs : List ℤ) (walk : Intersections) → Unrefused (nextMerged cs walk)
 unfolding nextMerged
 merged-fine cs walk = merged-none (walk .place) (walk .width) (walk .span) (spansFrom cs (walk .width) (walk .span .row) (walk .place))
 
@@ -163,12 +164,7 @@ module _ (limits : Limits) (cs : List ℤ) where
 
     bend-is : nextAnswer limits cs walk .bend ≡ routeBend limits false cs w
     unfolding nextAnswer
-    bend-is = by (eqb (nextRefusal limits cs walk) 0) refl
-      where
-        by : (t : Bool) → eqb (nextRefusal limits cs walk) 0 ≡ t
-            → cond t (nextMerged cs walk) (record { refusal = nextRefusal limits cs walk; bend = routeBend limits false cs w; found = false; span = newSpan (pos 0); walk = walk }) .bend ≡ routeBend limits false cs w
-        by true e = merged-fine cs walk .1 ∙ sym (told .other (λ five. omega (arith, five, eqb-iff (nextRefusal limits cs walk) 0 .0 e)))
-        by false e = refl
+    bend-is = chosen-bend {A = Merged} (λ r. r .bend) (nextRefusal limits cs walk) (merged-fine cs walk .1) refl (λ e. told .other (λ five. omega (arith, five, e)))
 
     pub next-bend : BendTold (list w ≡ 0) (limits .corner) (joinAt false cs w) (joinCount cs) (nextAnswer limits cs walk .refusal) (nextAnswer limits cs walk .bend)
     next-bend = rw (next-refusal, bend-is) told

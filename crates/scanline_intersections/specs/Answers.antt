@@ -17,7 +17,7 @@ use Rattle.route_joins.specs.Steps.{StepValues, routeStep, placeFrom}
 use Rattle.scanline_intersections.specs.declared.Intersections.{Intersections}
 use Rattle.scanline_intersections.specs.declared.Started.{Started}
 use Rattle.scanline_intersections.specs.declared.Merged.{Merged}
-use Rattle.scanline_intersections.specs.declared.Refusal.{Refusal}
+use Rattle.scanline_intersections.specs.declared.Verdict.{Verdict}
 use Rattle.scanline_intersections.specs.Merging.{walkOf, nextMerged}
 
 -- ---- start: what the list and the width are refused with, then 6, a row outside
@@ -47,8 +47,8 @@ nextRefusal limits cs walk =
     (cond (areJoinsNear (limits .corner) false cs (walk .width)) (spanRefusal (limits .corner) (walk .span)) cornerRefused)
 
 -- with the position that comes with 5
-abbrev pub refusedNext : Limits → List ℤ → Intersections → Refusal
-refusedNext limits cs walk = record { number = nextRefusal limits cs walk; bend = routeBend limits false cs (walk .width) }
+abbrev pub nextVerdict : Limits → List ℤ → Intersections → Verdict
+nextVerdict limits cs walk = record { refusal = nextRefusal limits cs walk; bend = routeBend limits false cs (walk .width) }
 
 unfoldable pub nextAnswer : Limits → List ℤ → Intersections → Merged
 nextAnswer limits cs walk =

@@ -3,7 +3,7 @@
 ghost use mathlib.Core.Path.{_≡_};
 ghost use Rattle.route_joins.specs.Steps.{stepValues};
 ghost use Rattle.shapes.specs.Limits.{panel as panelLimits};
-ghost use Rattle.scanline_intersections.specs.Answers.{startRefusal, polylineStart, polylineStep, afterPolyline, refusedNext, nextAnswer};
+ghost use Rattle.scanline_intersections.specs.Answers.{startRefusal, polylineStart, polylineStep, afterPolyline, nextVerdict, nextAnswer};
 
 pub mod inner; // inner.rt: the next merged span, without the tests
 
@@ -54,8 +54,8 @@ pub struct Merged {
 }
 
 /// What a walk is refused with, 0 where it is not, and the position that comes with 5.
-struct Refusal {
-    number: u64,
+struct Verdict {
+    refusal: u64,
     bend: usize,
 }
 
@@ -123,13 +123,13 @@ pub fn next_segment(coordinates: &[i64], walk: Intersections) -> Stepped
 pub fn next(coordinates: &[i64], walk: Intersections) -> Merged
     ensures { λ r. ⌜ r ≡ nextAnswer panelLimits (now (coordinates .entry)) walk ⌝ }
 {
-    let refusal = next_refusal(coordinates, walk);
-    if refusal.number == 0 {
+    let verdict = next_verdict(coordinates, walk);
+    if verdict.refusal == 0 {
         return merge(coordinates, walk);
     }
     Merged {
-        refusal: refusal.number,
-        bend: refusal.bend,
+        refusal: verdict.refusal,
+        bend: verdict.bend,
         found: false,
         span: Span {
             row: 0,
@@ -153,24 +153,25 @@ fn start_refusal(coordinates: &[i64], width: i64, row: i64) -> u64
 
 /// The refusal of a walk whose next merged span is asked for: 1 to 4, 12, then 5, then 6 and 7, with which `try_take` refuses the
 /// walk's span.
-fn next_refusal(coordinates: &[i64], walk: Intersections) -> Refusal
-    ensures { λ r. ⌜ r ≡ refusedNext panelLimits (now (coordinates .entry)) walk ⌝ }
+fn next_verdict(coordinates: &[i64], walk: Intersections) -> Verdict
+    ensures { λ r. ⌜ r ≡ nextVerdict panelLimits (now (coordinates .entry)) walk ⌝ }
 {
     let width = walk.width;
     let number = refusal(coordinates, width, false);
     if number != 0 {
-        return Refusal { number, bend: 0 };
+        return Verdict {
+            refusal: number,
+            bend: 0,
+        };
     }
     let near = near_joins(coordinates, width, false, limits::CORNER);
     if near == join_count(coordinates) {
         let span = walk.span;
-        return Refusal {
-            number: try_take(span).refusal,
-            bend: 0,
-        };
+        let refusal = try_take(span).refusal;
+        return Verdict { refusal, bend: 0 };
     }
-    Refusal {
-        number: CORNER,
+    Verdict {
+        refusal: CORNER,
         bend: near,
     }
 }

@@ -1,8 +1,10 @@
 //! Corners that are run and not proved: squared miters of 36 and 37 at width 3, widths 64 and 65, coordinates 511 and 512 with
-//! either sign at each place, 32 and 33 runs, and a closed walk to a skeleton whose box has other rows than its drawn line. Here are
-//! the questions alone; what must be written stands in `stdout`, and comes from another calculation (oracle/README.md).
+//! either sign at each place, 32 and 33 runs, a closed walk to a skeleton whose box has other rows than its drawn line, and routes with
+//! joins that are too far where corners may go no farther than 45: within 4,095 no accepted route is known to have one. Here are the
+//! questions alone; what must be written stands in `stdout`, and comes from another calculation (oracle/README.md).
 ghost use Prim.Native.Nat.{_≤_, _<_};
 ghost use lib.ListN.{length};
+ghost use Rattle.shapes.specs.Limits.{Roomy};
 use board::Board;
 use closed_thick_segment_iter::Walk;
 use closed_thick_segment_iter::start;
@@ -15,7 +17,9 @@ use intersection_params::crossing;
 use line_join::Joined;
 use line_join::Kind;
 use line_join::from_points;
+use route::inner::prepare;
 use route_joins::Step;
+use route_joins::inner::step_at;
 use shapes::Line;
 use shapes::Offset;
 use shapes::Point;
@@ -25,6 +29,7 @@ use shapes::inner::is_near;
 use shapes::inner::minus;
 use shapes::inner::squared_length;
 use shapes::limits::CORNER;
+use shapes::limits::Limits;
 use test_joins::say_join;
 use test_text::say_bool;
 use test_text::say_line;
@@ -47,6 +52,7 @@ fn main() {
     ask_board();
     ask_routes();
     ask_skeletons();
+    ask_bends();
 }
 
 /// Bends with their outer side on the left and on the right: first miters that are just short enough, then just too long.
@@ -145,6 +151,68 @@ fn say_rows(segment: Segment) {
     say(b", of what is drawn");
     say_next(rows.first);
     say_next(rows.last);
+}
+
+/// Joins that are too far at a route's end, its start, on the way, and nowhere; behind a doubled point, which comes first; of closed
+/// routes at the first point, where the closing segment ends, at the second of two, and at the last two of four.
+fn ask_bends() {
+    ask_far(&[0, 0, 40, 0, 40, 30, 60, 0], false);
+    ask_far(&[50, 0, 0, 0, 60, 0], false);
+    ask_far(&[0, 0, 20, 0, 20, 44, 0, 44], false);
+    ask_far(&[0, 0, 40, 0], false);
+    ask_far(&[60, 0, 60, 0, 0, 0], false);
+    ask_far(&[46, 0, 0, 20, 0, 0], true);
+    ask_far(&[0, 0, 0, 50], true);
+    ask_far(&[0, 0, 20, 0, 20, 44, 0, 44], true);
+}
+
+/// What a route of width 5 is refused with as a whole, and what its first four steps answer.
+fn ask_far(coordinates: &[i64], closed: bool) {
+    say(b"corners within 45, ");
+    if closed {
+        say(b"closed");
+    } else {
+        say(b"open");
+    }
+    say_numbers(coordinates);
+    say(b": ");
+    let prepared = prepare(coordinates, 5, closed, small());
+    if prepared.refusal == 0 {
+        say(b"accepted");
+    } else {
+        say_refused_at(prepared.refusal, prepared.bend);
+    }
+    say(b"; ");
+    ask_step(coordinates, closed, 0);
+    say(b", ");
+    ask_step(coordinates, closed, 1);
+    say(b", ");
+    ask_step(coordinates, closed, 2);
+    say(b", ");
+    ask_step(coordinates, closed, 3);
+    say(b"\n");
+}
+
+/// What a walk answers at a place.
+fn ask_step(coordinates: &[i64], closed: bool, place: usize) {
+    let stepped = step_at(coordinates, 5, closed, Offset::None, place, small());
+    let answered = stepped.step;
+    match answered {
+        Step::Drawn(_) => say(b"segment"),
+        Step::End => say(b"end"),
+        Step::Refused(number, bend) => say_refused_at(number, bend),
+    }
+}
+
+/// The limits of a panel, but for corners, which may go no farther than 45.
+fn small() -> Limits
+    ensures { λ r. ⌜ Roomy r ⌝ }
+{
+    Limits {
+        point: 511,
+        crossing: 1023,
+        corner: 45,
+    }
 }
 
 /// How long the miter of a bend is, and whether it is kept. A bend is three points, x and y of each in turn.

@@ -5,9 +5,11 @@ mod owners; // owners.rt: owners that lend what is worked on in place
 
 use board::Board;
 use board::Run;
+use line_join::Join;
 use route_joins::Step;
 use shapes::Offset;
 use test_joins::say_origins;
+use test_joins::say_position;
 use test_text::say_line;
 use test_text::say_numbers;
 use thick_segment::Segment;
@@ -25,9 +27,15 @@ fn draw(segment: Segment, board: Board) -> Board {
     let span = thick_segment::span(segment, board.row).span;
     say_next(span.start);
     say_next(span.end);
-    say_origins(segment.start);
-    say_origins(segment.end);
+    say_whence(segment.start);
+    say_whence(segment.end);
     board::offer(board, span).board
+}
+
+// The origins and the position of a join.
+fn say_whence(join: Join) {
+    say_origins(join);
+    say_position(join);
 }
 
 // A step's line, and the board after it.

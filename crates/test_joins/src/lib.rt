@@ -82,15 +82,20 @@ pub fn say_join(join: Join) {
     say_corners(ending);
     say_corners(starting);
     say_origins(join);
+    say_position(join);
 }
 
-/// Writes the origins of the left and of the right corners of a join, and its position.
+/// Writes the origins of the left and of the right corners of a join.
 pub fn say_origins(join: Join) {
     let origins = join.origins;
     let left = origins.left;
     let right = origins.right;
     say_origin(left);
     say_origin(right);
+}
+
+/// Writes the position of a join.
+pub fn say_position(join: Join) {
     say(b" ");
     say_count(join.position as u64);
 }

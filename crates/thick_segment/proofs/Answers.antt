@@ -1,5 +1,5 @@
--- What the entries answer: inside the limit what is asked, else the refusal with 0 in every other field; and what 01 says of the
--- answers that are no refusal. Assumes nothing.
+-- What the entries answer: inside the limit what is asked, else the refusal with 0 in every other field, but with 5 the bend; and what 01
+-- says of the answers that are no refusal. Assumes nothing.
 use mathlib.Core.Path.{_≡_, refl, sym, ap, subst, _∙_}
 use mathlib.Core.Logic.{_↔_}
 use mathlib.Core.Bool.{Bool, true, false}
@@ -16,8 +16,9 @@ use Rattle.whole.proofs.Tests.{clash, else-true, eqb-iff, Chosen, chosen, chose
 use Rattle.scanline.specs.Spans.{newSpan}
 use Rattle.shapes.specs.Spans.{SpanSound}
 use Rattle.line_join.specs.Words.{Named, BendTold}
-use Rattle.line_join.proofs.Named.{bend-told, chosen-told}
+use Rattle.line_join.proofs.Named.{chosen-bend, bend-told, chosen-told}
 use Rattle.thick_segment.specs.declared.Segment.{Segment}
+use Rattle.thick_segment.specs.declared.SegmentSpan.{SegmentSpan}
 use Rattle.thick_segment.specs.Segments.{SegmentNear, isSegmentNear, farBend, isSkeleton, edgesOf, boundingBox, rowsOf, perimeterOf, countOf, spanOn}
 use Rattle.thick_segment.specs.Rows.{rowsFrom, boxRows, drawnRows}
 use Rattle.thick_segment.specs.Words.{joinsIn, HasRow, EndsNear}
@@ -132,15 +133,14 @@ module _ (k : ℕ) (s : Segment) where
     pub span-refusal : spanAnswer k s row .refusal ≡ segmentRefusal k s row
     span-refusal = refusal-by (eqb (segmentRefusal k s row) 0) refl
 
-    bend-by : (t : Bool) → eqb (segmentRefusal k s row) 0 ≡ t → spanAnswer k s row .bend ≡ farBend k s
+    bend-is : spanAnswer k s row .bend ≡ farBend k s
     unfolding spanAnswer
-    bend-by true e = rw e (sym (near-bend k s (segment-none k s row .0 (eqb-true (segmentRefusal k s row) 0 e) .0)))
-    bend-by false e = rw e
+    bend-is = chosen-bend {A = SegmentSpan} (λ v. v .bend) (segmentRefusal k s row) refl refl (λ e. near-bend k s (segment-none k s row .0 e .0))
 
     pub span-bend : BendTold Unit k (joinsIn s) 2 (spanAnswer k s row .refusal) (spanAnswer k s row .bend)
     span-bend =
         let five = segment-five k s row in
-        rw (span-refusal, bend-by (eqb (segmentRefusal k s row) 0) refl)
+        rw (span-refusal, bend-is)
         (bend-told k (joinsIn s) 2 (λ e. (tt, five .0 e), λ h. five .1 (h .1)) (named-far k s) (λ e. segment-named k s (five .0 e))
         (λ other. near-bend k s (segment-near-iff k s .0 (else-true (isSegmentNear k s) (λ e. other (five .1 (λ near. clash (segment-near-iff k s .1 near) e)))))))
 

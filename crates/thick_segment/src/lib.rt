@@ -1,6 +1,6 @@
 //! A thick segment between two joins: whether it is a skeleton, its edges and their bounding box, the lines that are drawn and their
-//! rows, and its span on a row. `thick_segment.rs`. An answer that is refused with 5 has in `bend` the position of the join with a
-//! corner beyond 4,095, of the start join if both have one; every other answer has 0 there.
+//! rows, and its span on a row. `thick_segment.rs`. The position that comes with 5 is that of the join with a corner beyond 4,095,
+//! of the start join if both have one.
 ghost use mathlib.Core.Path.{_≡_};
 ghost use Rattle.shapes.specs.Limits.{cornerLimit};
 ghost use Rattle.thick_segment.specs.Answers.{skeletonAnswer, edgesAnswer, boxAnswer, perimeterAnswer, countAnswer, drawnRowsAnswer, segmentRefusal, spanAnswer};
@@ -42,42 +42,42 @@ pub struct Rows {
     pub last: i64,
 }
 
-/// The edges, or the refusal with zeros.
+/// The edges, or the refusal with zeros. `bend` is the position that comes with 5, else 0.
 pub struct Edged {
     pub refusal: u64,
     pub bend: usize,
     pub edges: EdgePair,
 }
 
-/// The box, or the refusal with zeros.
+/// The box, or the refusal with zeros. `bend` is the position that comes with 5, else 0.
 pub struct Boxed {
     pub refusal: u64,
     pub bend: usize,
     pub rectangle: Rectangle,
 }
 
-/// The rows of the lines that are drawn, or the refusal with zeros.
+/// The rows of the lines that are drawn, or the refusal with zeros. `bend` is the position that comes with 5, else 0.
 pub struct DrawnRows {
     pub refusal: u64,
     pub bend: usize,
     pub rows: Rows,
 }
 
-/// Whether a segment is one pixel wide, or the refusal with false.
+/// Whether a segment is one pixel wide, or the refusal with false. `bend` is the position that comes with 5, else 0.
 pub struct Skeletal {
     pub refusal: u64,
     pub bend: usize,
     pub skeleton: bool,
 }
 
-/// A segment's span on a row, or the refusal with zeros.
+/// A segment's span on a row, or the refusal with zeros. `bend` is the position that comes with 5, else 0.
 pub struct SegmentSpan {
     pub refusal: u64,
     pub bend: usize,
     pub span: Span,
 }
 
-/// How many lines are drawn, or the refusal with 0.
+/// How many lines are drawn, or the refusal with 0. `bend` is the position that comes with 5, else 0.
 pub struct Counted {
     pub refusal: u64,
     pub bend: usize,

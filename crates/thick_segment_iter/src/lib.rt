@@ -48,7 +48,7 @@ pub fn start(coordinates: &[i64], width: i64) -> Started
 }
 
 /// The segment at the walk's place, or the end past the last one. Refused as `start`, and with 5 if a join of the segment has a
-/// corner beyond 4,095: the walk then stays where it is.
+/// corner beyond 4,095, at the position of the first that has: the walk then stays where it is.
 pub fn step(coordinates: &[i64], walk: Walk) -> Stepped
     ensures answers { λ r. ⌜ stepValues (r .step) ≡ openStep panelLimits (now (coordinates .entry)) walk ⌝ }
     ensures moves { λ r. ⌜ r .walk ≡ afterOpen panelLimits (now (coordinates .entry)) walk ⌝ }

@@ -13,7 +13,7 @@ use Rattle.scanline_intersections.proofs.next.Statement.{statement}
 use Rattle.scanline_intersections.proofs.next.Tie as tie
 
 none : (c : tie.Then1) → let a = c .before .before .before .args in nextRefusal panel (a .coordinates .now) (a .walk) ≡ 0
-none c = sym (ap (λ r. r .number) (c .before .before .next-refusal .ensures)) ∙ c .if1 .taken
+none c = sym (ap (λ r. r .refusal) (c .before .before .next-verdict .ensures)) ∙ c .if1 .taken
 
 merge-requires : tie.Need-merge-requires
 merge-requires c κs =
@@ -28,8 +28,8 @@ returns c = rw (none (c .before)) (c .merge .ensures)
 returns-2 : tie.Need-returns-2
 unfolding nextAnswer
 returns-2 c =
-    let e = c .before .before .next-refusal in
-    rw (← ap (λ r. r .number) (e .ensures), ← ap (λ r. r .bend) (e .ensures)) (simp (ne-eqb (e .result .number) 0 (c .if1 .left)))
+    let e = c .before .before .next-verdict in
+    rw (← ap (λ r. r .refusal) (e .ensures), ← ap (λ r. r .bend) (e .ensures)) (simp (ne-eqb (e .result .refusal) 0 (c .if1 .left)))
 
 pub next-spec : {M : Type 1} → statement M
 next-spec = tie.close (tie.spec (λ c κs. search needs) merge-requires returns returns-2)

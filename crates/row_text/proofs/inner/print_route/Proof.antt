@@ -6,7 +6,7 @@ use mir.Facts.{toZ-ofZ}
 use mir.Syntax.{w64}
 use Rattle.route.specs.Rows.{rowsRefusal}
 use Rattle.route.specs.Answers.{preparedOf, wholeRefusal}
-use Rattle.route.proofs.Chains.{Ready, ready, refused-with, whole-stopped, whole-made}
+use Rattle.route.proofs.Chains.{Ready, ready, refused-with, named-with, whole-stopped, whole-made, verdict-stopped, verdict-made}
 use Rattle.route.proofs.Ranges.{rows-near}
 use Rattle.row_text.specs.Pixels.{litIn}
 use Rattle.row_text.proofs.Laws.{pixels-refused, pixels-drawn}
@@ -29,6 +29,16 @@ room c =
     let a = p .before .args in
     c .rows-refusal .ensures ∙ ap (rowsRefusal (p .prepare .result .joins)) (c .before .rows-of .ensures) ∙ whole-made (a .limits) (a .closed) (a .coordinates .now) (a .width) (free e)
 
+-- what is printed of a refused route is what it is refused with, and its bend
+print-refused-requires : tie.Need-print-refused-requires
+print-refused-requires c κs =
+    let p = c .before .before in
+    let s = p .before in
+    let a = s .args in
+    rw (toZ-ofZ (s .fits .width))
+    (verdict-stopped (a .limits) (a .closed) (a .coordinates .now) (a .width) (refused-with (a .limits) (a .closed) (a .coordinates .now) (a .width) (told p)) (c .if1 .taken)
+    (named-with (a .limits) (a .closed) (a .coordinates .now) (a .width) (told p)))
+
 returns : tie.Need-returns
 returns c =
     let p = c .before .before .before in
@@ -39,6 +49,16 @@ returns c =
 
 rows-refusal-requires : tie.Need-rows-refusal-requires
 rows-refusal-requires c κs = let kept = free (c .before .before) .kept in (kept, rw (c .rows-of .ensures) (rows-near kept))
+
+print-refused-requires-2 : tie.Need-print-refused-requires-2
+print-refused-requires-2 c κs =
+    let r = c .before in
+    let e = r .before .before .before in
+    let p = e .before .before in
+    let s = p .before in
+    let a = s .args in
+    rw (toZ-ofZ (s .fits .width))
+    (verdict-made (a .limits) (a .closed) (a .coordinates .now) (a .width) (free e) (r .rows-refusal .ensures ∙ ap (rowsRefusal (p .prepare .result .joins)) (r .before .rows-of .ensures)))
 
 returns-2 : tie.Need-returns-2
 returns-2 c =
@@ -67,11 +87,11 @@ print-route-spec =
     tie.close
     (tie.spec
     (λ c κs. search needs)
-    (λ c κs. search needs)
+    print-refused-requires
     returns
     (λ c κs. free (c .before) .kept)
     rows-refusal-requires
-    (λ c κs. search needs)
+    print-refused-requires-2
     returns-2
     print-rows-requires
     returns-3)

@@ -1,4 +1,4 @@
--- `scanline_intersections::next_refusal` meets its contract. Assumes nothing.
+-- `scanline_intersections::next_verdict` meets its contract. Assumes nothing.
 use mathlib.Core.Path.{_≡_, refl, ap, _∙_}
 use mathlib.Core.Logic.{_↔_}
 use mathlib.Core.Bool.{Bool, true, false, cond}
@@ -19,9 +19,9 @@ use Rattle.route_joins.specs.Joins.{areJoinsNear, nearJoins, routeBend}
 use Rattle.route_joins.proofs.Near.{all-more}
 use Rattle.route_joins.proofs.Bends.{near-all}
 use Rattle.route_joins.proofs.Walks.{refusal-told}
-use Rattle.scanline_intersections.specs.Answers.{nextRefusal, refusedNext}
-use Rattle.scanline_intersections.proofs.next_refusal.Statement.{statement}
-use Rattle.scanline_intersections.proofs.next_refusal.Tie as tie
+use Rattle.scanline_intersections.specs.Answers.{nextRefusal, nextVerdict}
+use Rattle.scanline_intersections.proofs.next_verdict.Statement.{statement}
+use Rattle.scanline_intersections.proofs.next_verdict.Tie as tie
 
 -- `try_take` tells the refusal of its span
 taken : (s : Span) → tryTakeAnswer cornerLimit s .refusal ≡ spanRefusal cornerLimit s
@@ -55,7 +55,7 @@ all-near c =
     rw (counted (c .before), c .join-count .ensures) (near-all cornerLimit false (a .coordinates .now) (a .walk .width))
 
 joins-told : (c : tie.After-join-count) {t : Bool} → all c ≡ t → let a = c .before .before .before .before .before .args in
-    refusedNext panel (a .coordinates .now) (a .walk) ≡ record { number = cond t (spanRefusal cornerLimit (a .walk .span)) 5; bend = cond t 0 (nearJoins cornerLimit false (a .coordinates .now) (a .walk .width)) }
+    nextVerdict panel (a .coordinates .now) (a .walk) ≡ record { refusal = cond t (spanRefusal cornerLimit (a .walk .span)) 5; bend = cond t 0 (nearJoins cornerLimit false (a .coordinates .now) (a .walk .width)) }
 unfolding nextRefusal routeBend
 joins-told c e =
     let r = c .before .before .before in
@@ -70,5 +70,5 @@ returns-2 c =
 returns-3 : tie.Need-returns-3
 returns-3 c = rw (joins-told (c .before) (else-false (all (c .before)) (λ e. c .if2 .left (all-near (c .before) .1 e))), ← counted (c .before .before))
 
-pub next-refusal-spec : {M : Type 1} → statement M
-next-refusal-spec = tie.close (tie.spec (λ c κs. search needs) returns near-joins-requires (λ c κs. search needs) (λ c κs. search needs) returns-2 returns-3)
+pub next-verdict-spec : {M : Type 1} → statement M
+next-verdict-spec = tie.close (tie.spec (λ c κs. search needs) returns near-joins-requires (λ c κs. search needs) (λ c κs. search needs) returns-2 returns-3)
