@@ -2,17 +2,15 @@
 -- limit. Assumes nothing.
 use mathlib.Core.Path.{_≡_, refl, sym, _∙_}
 use mathlib.Core.Logic.{_↔_}
-use mathlib.Core.Bool.{Bool, true, false, cond}
+use mathlib.Core.Bool.{Bool}
 use mathlib.Core.List.{List}
 use Prim.Native.Nat.{ℕ}
 use native.Mathlib.Omega.{arith}
-use borrow.Author.Tests.{eqb-true}
 use lib.Dec.{eqb}
 use lib.IntN.{ℤ}
 use Rattle.shapes.specs.declared.limits.Limits.{Limits}
 use Rattle.line_join.specs.Words.{BendTold}
 use Rattle.line_join.proofs.Named.{chosen-bend, bend-as}
-use Rattle.board.specs.Boards.{told}
 use Rattle.coordinates.specs.Refusal.{routeRefusal}
 use Rattle.route_joins.specs.Joins.{joinAt, joinCount, routeBend}
 use Rattle.whole.specs.Places.{listFrom}
@@ -21,8 +19,8 @@ use Rattle.route.specs.declared.RowRange.{RowRange}
 use Rattle.route.specs.declared.Joins.{Joins}
 use Rattle.route.specs.declared.Listing.{Listing}
 use Rattle.route.specs.Joined.{joinsOf, segmentsIn}
-use Rattle.route.specs.Rows.{boardOn, noRows, drawnIn, rowsIn}
-use Rattle.route.specs.Answers.{drawRefusal, rowsAnswer, wholeAnswer, refusalOn, answerOn, noListing, listingOf, rowAnswer}
+use Rattle.route.specs.Rows.{noRows, drawnIn, rowsIn}
+use Rattle.route.specs.Answers.{drawRefusal, rowsAnswer, wholeAnswer, refusalOn, answerOn, rowAnswer}
 use Rattle.route.proofs.Refused.{draw-bend, row-before, answer-before}
 use Rattle.route.proofs.AllRows.{all-bend, rows-refusal, whole-before}
 
