@@ -1,7 +1,7 @@
 //! Rows of a route drawn one after the other, for C to call: what the benchmark counts (docs/SPEED.md).
 ghost use Rattle.std.specs.Prelude.{◌≡◌, length};
-ghost use Rattle.shapes.specs.Limits.{panel as panelLimits};
-ghost use Rattle.bench_rows.specs.Drawn.{lastColumns, rows_to};
+ghost use Rattle.shapes.specs.Limits.{panel as panel_limits};
+ghost use Rattle.bench_rows.specs.Drawn.{last_columns, rows_to};
 
 use route::Listing;
 use route::inner::{prepare, refused, row_of};
@@ -17,7 +17,7 @@ pub extern "C" fn knitbramble_rows_by_entry(
     rows: &[i64],
     out: &mut [i64],
 ) -> i64
-    ensures { (result ≡ lastColumns panelLimits closed coordinates.now width rows.now (length out.old)) × (out.new ≡ rows_to panelLimits closed coordinates.now width rows.now out.old) }
+    ensures { (result ≡ last_columns panel_limits closed coordinates.now width rows.now (length out.old)) × (out.new ≡ rows_to panel_limits closed coordinates.now width rows.now out.old) }
 {
     let mut last: Listing = refused(0, 0);
     let mut i: usize = 0;
@@ -37,7 +37,7 @@ pub extern "C" fn knitbramble_rows_of_joins(
     rows: &[i64],
     out: &mut [i64],
 ) -> i64
-    ensures { (result ≡ lastColumns panelLimits closed coordinates.now width rows.now (length out.old)) × (out.new ≡ rows_to panelLimits closed coordinates.now width rows.now out.old) }
+    ensures { (result ≡ last_columns panel_limits closed coordinates.now width rows.now (length out.old)) × (out.new ≡ rows_to panel_limits closed coordinates.now width rows.now out.old) }
 {
     let route = prepare(coordinates, width, closed, panel());
     if route.refusal != 0 {

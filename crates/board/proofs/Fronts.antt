@@ -7,7 +7,7 @@ use native.Mathlib.Omega.{arith}
 use lib.ListN.{length, get_or, take, drop, set, replicate, length-drop, take-append-drop}
 use lib.Seq.{take_at, length-take-le}
 use lib.Signed.{lt_z}
-use Rattle.shapes.specs.Limits.{boardRuns}
+use Rattle.shapes.specs.Limits.{board_runs}
 use Rattle.board.specs.declared.Run.{Run}
 use Rattle.board.specs.declared.Board.{Board}
 use Rattle.board.specs.Runs.{no_run, joined, with_run}
@@ -52,15 +52,15 @@ module _ (r : Run) {ps : List Run} where
 
 -- ---- an array filled from the front
 
-pub filling-none : (all : List Run) → Filling (replicate boardRuns no_run) 0 all all
+pub filling-none : (all : List Run) → Filling (replicate board_runs no_run) 0 all all
 filling-none all = record { array = refl; place = zero-le; left = refl }
 
 module _ {runs rest all : List Run} {count : ℕ} where
-  pub filling-turn : {r : Run} → Filling runs count (r ∷ rest) all → count < boardRuns → Filling (set runs count r) (count + 1) rest all
+  pub filling-turn : {r : Run} → Filling runs count (r ∷ rest) all → count < board_runs → Filling (set runs count r) (count + 1) rest all
   filling-turn {r} f h =
       let p = at_place all rest count r f.left in
       record {
-        array = rw f.array (fill-turn boardRuns no_run all rest count r h f.left);
+        array = rw f.array (fill-turn board_runs no_run all rest count r h f.left);
         place = omega arith;
         left = fill-rest all rest count r f.left;
       }
@@ -71,11 +71,11 @@ module _ {runs rest all : List Run} {count : ℕ} where
   -- what stands in the array, and then what is left
   pub filling-all : Filling runs count rest all → take count runs ++ rest ≡ all
   filling-all f =
-      let front = take_at (take count all) (replicate (boardRuns - count) no_run) count (length-take-le count all f.place) in
+      let front = take_at (take count all) (replicate (board_runs - count) no_run) count (length-take-le count all f.place) in
       rw (f.array, front, ← f.left) (take-append-drop count all)
 
 pub filling-done : {runs all : List Run} {count : ℕ} → Filling runs count [] all → (count ≡ length all) × (runs ≡ padded all)
 unfolding padded
 filling-done {all} {count} f =
     let e : count ≡ length all = omega (arith, filling-length f) in
-    (e, f.array ∙ fill_done boardRuns no_run all count e)
+    (e, f.array ∙ fill_done board_runs no_run all count e)

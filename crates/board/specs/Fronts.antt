@@ -1,14 +1,14 @@
 -- An offer half done: the first runs of the answer stand in an array, then comes the offered run with all that it joins, and then the
 -- board's runs from a place on.
 use Rattle.std.specs.Prelude.{List, ◌∷◌, ◌++◌, ◌≡◌, ℕ, ◌-◌, ◌≤◌, length, take, drop, replicate}
-use Rattle.shapes.specs.Limits.{boardRuns}
+use Rattle.shapes.specs.Limits.{board_runs}
 use Rattle.board.specs.declared.inner.Front.{Front}
 use Rattle.board.specs.declared.Run.{Run}
 use Rattle.board.specs.Runs.{no_run}
 
 -- the array holds the first `count` runs of a list, with nothing but 0 after them, and `rest` is what is left of it
 pub record Filling (runs : List Run) (count : ℕ) (rest all : List Run) : Type 0 where
-  pub array : runs ≡ take count all ++ replicate (boardRuns - count) no_run
+  pub array : runs ≡ take count all ++ replicate (board_runs - count) no_run
   pub place : count ≤ length all
   pub left : drop count all ≡ rest
 

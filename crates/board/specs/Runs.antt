@@ -15,13 +15,13 @@ no_run = run_of (pos 0) (pos 0)
 -- ---- the columns of runs
 
 -- "start, end not included"
-abbrev pub inRun : Run → ℤ → Bool
-inRun r x = between r.start r.end x
+abbrev pub in_run : Run → ℤ → Bool
+in_run r x = between r.start r.end x
 
 -- the column x lies in one of the runs
 unfoldable pub lit : List Run → ℤ → Bool
 lit [] x = false
-lit (r ∷ rs) x = inRun r x || lit rs x
+lit (r ∷ rs) x = in_run r x || lit rs x
 
 -- "their total": the lengths of the runs, added up
 unfoldable pub total : List Run → ℤ
@@ -48,9 +48,9 @@ edge k = negsuc k
 unfoldable pub follows : ℕ → ℤ → Run → Bool
 follows k last r = lt_z last r.start && (lt_z r.start r.end && le_z r.end (pos (suc k)))
 
-unfoldable pub isAscending : ℕ → ℤ → List Run → Bool
-isAscending k last [] = true
-isAscending k last (r ∷ rs) = follows k last r && isAscending k r.end rs
+unfoldable pub is_ascending : ℕ → ℤ → List Run → Bool
+is_ascending k last [] = true
+is_ascending k last (r ∷ rs) = follows k last r && is_ascending k r.end rs
 
 -- ---- one more run
 

@@ -1,10 +1,10 @@
 //! What the entries do once their input is tested, for the crates above.
 ghost use Rattle.std.specs.Prelude.{◌≡◌, [], ◌+◌, ◌*◌, ◌≤◌, ◌<◌, length, get_or, set};
 ghost use Rattle.std.specs.Int.Signed.{lt_z};
-ghost use Rattle.shapes.specs.Limits.{boardRuns, lineLimit};
-ghost use Rattle.board.specs.Runs.{no_run, edge, isAscending, with_run, total};
-ghost use Rattle.board.specs.Runs.{follows as followsOf, joined as joinedOf};
-ghost use Rattle.board.specs.Boards.{live, boardOf, Sound, isSound, answer_of, notListed, spanRun, added, told, toldTo, over};
+ghost use Rattle.shapes.specs.Limits.{board_runs, line_limit};
+ghost use Rattle.board.specs.Runs.{no_run, edge, is_ascending, with_run, total};
+ghost use Rattle.board.specs.Runs.{follows as follows_of, joined as joined_of};
+ghost use Rattle.board.specs.Boards.{live, board_of, Sound, is_sound, answer_of, not_listed, span_run, added, told, told_to, over};
 ghost use Rattle.board.specs.Fronts.{Gathered, whole_of};
 
 use crate::{Answer, Board, Listed, Run};
@@ -31,7 +31,7 @@ struct Sum {
 
 /// A row with no runs.
 pub fn empty_board(row: i64) -> Board
-    ensures { result ≡ boardOf row [] }
+    ensures { result ≡ board_of row [] }
 {
     Board {
         row,
@@ -49,7 +49,7 @@ pub fn refused(refusal: u64, board: Board) -> Answer
 
 /// A listing that is refused: its number, and 0 for the rest.
 pub fn not_listed(refusal: u64) -> Listed
-    ensures { result ≡ notListed refusal }
+    ensures { result ≡ not_listed refusal }
 {
     Listed {
         refusal,
@@ -60,7 +60,7 @@ pub fn not_listed(refusal: u64) -> Listed
 
 /// What stands at place `i` of a board's array. It copies the board: a loop that is to be fast reads the array itself.
 pub fn run_at(board: Board, i: usize) -> Run
-    requires { i < boardRuns }
+    requires { i < board_runs }
     ensures { result ≡ get_or board.runs i no_run }
 {
     board.runs[i]
@@ -68,7 +68,7 @@ pub fn run_at(board: Board, i: usize) -> Run
 
 /// Whether a run comes after the column `last`, which stays dark, is not empty, and ends inside the columns.
 fn follows(limit: u32, last: i64, run: Run) -> bool
-    ensures { result ≡ followsOf limit last run }
+    ensures { result ≡ follows_of limit last run }
 {
     both(
         last < run.start,
@@ -78,8 +78,8 @@ fn follows(limit: u32, last: i64, run: Run) -> bool
 
 /// Whether the runs ascend inside the columns, none empty, with a dark column between neighbours.
 fn is_ascending(board: Board, limit: u32) -> bool
-    requires { board.count ≤ boardRuns }
-    ensures { result ≡ isAscending limit (edge limit) (live board) }
+    requires { board.count ≤ board_runs }
+    ensures { result ≡ is_ascending limit (edge limit) (live board) }
 {
     let n = board.count;
     let mut last = Run {
@@ -101,7 +101,7 @@ fn is_ascending(board: Board, limit: u32) -> bool
 
 /// Whether a fresh board can come to this one, where rows and columns are from `-limit` to `limit`.
 pub fn is_sound(board: Board, limit: u32) -> bool
-    ensures { result ≡ isSound limit board }
+    ensures { result ≡ is_sound limit board }
 {
     if board.count <= BOARD_RUNS {
         return both(within(board.row, limit), is_ascending(board, limit));
@@ -111,7 +111,7 @@ pub fn is_sound(board: Board, limit: u32) -> bool
 
 /// The columns of a span.
 fn run_of(span: Span) -> Run
-    ensures { result ≡ spanRun span }
+    ensures { result ≡ span_run span }
 {
     Run {
         start: span.start,
@@ -121,7 +121,7 @@ fn run_of(span: Span) -> Run
 
 /// What two runs become that touch or overlap.
 fn joined(a: Run, b: Run) -> Run
-    ensures { result ≡ joinedOf a b }
+    ensures { result ≡ joined_of a b }
 {
     Run {
         start: lesser(a.start, b.start),
@@ -138,7 +138,7 @@ fn ends_before(run: Run, column: i64) -> bool
 
 /// The board's runs before `run`, and `run` with all that it touches or overlaps.
 fn front_of(board: Board, run: Run) -> Front
-    requires { board.count ≤ boardRuns }
+    requires { board.count ≤ board_runs }
     ensures { Gathered result (live board) (with_run run (live board)) }
 {
     let n = board.count;
@@ -174,10 +174,10 @@ fn front_of(board: Board, run: Run) -> Front
 
 /// The whole answer of an offer that is half done: the run, and then the board's runs that are left.
 fn filled(board: Board, front: Front) -> Board
-    requires count_le_board_runs { board.count ≤ boardRuns }
+    requires count_le_board_runs { board.count ≤ board_runs }
     requires gathered { Gathered front (live board) (whole_of front (live board)) }
-    requires board_len_bound { length (whole_of front (live board)) ≤ boardRuns }
-    ensures { result ≡ boardOf board.row (whole_of front (live board)) }
+    requires board_len_bound { length (whole_of front (live board)) ≤ board_runs }
+    ensures { result ≡ board_of board.row (whole_of front (live board)) }
 {
     let n = board.count;
     let mut runs = front.runs;
@@ -202,7 +202,7 @@ fn filled(board: Board, front: Front) -> Board
 /// An offer that makes no test: the board with the span's columns lit as well; 8, and the board as it was, if the union needs
 /// more than 32 runs. An empty span changes nothing.
 pub fn offer_sound(board: Board, span: Span) -> Answer
-    requires { board.count ≤ boardRuns }
+    requires { board.count ≤ board_runs }
     ensures { result ≡ added board span }
 {
     if is_empty(span) {
@@ -221,7 +221,7 @@ pub fn offer_sound(board: Board, span: Span) -> Answer
 
 /// The number of lit columns of a board whose row and columns are within 2^14.
 pub fn total_of(board: Board) -> i64
-    requires { Sound lineLimit board }
+    requires { Sound line_limit board }
     ensures { result ≡ total (live board) }
 {
     let n = board.count;
@@ -248,7 +248,7 @@ fn put_run(out: &mut [i64], at: usize, run: Run)
 
 /// Writes the runs to the front of a list, start and end of each in turn.
 fn write_runs(board: Board, out: &mut [i64])
-    requires count_le_board_runs { board.count ≤ boardRuns }
+    requires count_le_board_runs { board.count ≤ board_runs }
     requires count_in_bounds { 2 * board.count ≤ length out.old }
     ensures { out.new ≡ over out.old (live board) }
 {
@@ -264,8 +264,8 @@ fn write_runs(board: Board, out: &mut [i64])
 /// A listing that makes no test of the board, whose row and columns are within 2^14: writes the runs to the front of `out` and
 /// answers their count and the number of their columns; 8, and `out` as it was, if it has fewer than two numbers for each run.
 pub fn list_sound(board: Board, out: &mut [i64]) -> Listed
-    requires { Sound lineLimit board }
-    ensures { (result ≡ told board (length out.old)) × (out.new ≡ toldTo board out.old) }
+    requires { Sound line_limit board }
+    ensures { (result ≡ told board (length out.old)) × (out.new ≡ told_to board out.old) }
 {
     let count = board.count;
     if out.len() < 2 * count {

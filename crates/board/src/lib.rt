@@ -1,7 +1,7 @@
 //! A row's runs, which never lie: each lit column is in one run, and no run touches another.
 ghost use Rattle.std.specs.Prelude.{◌≡◌, length};
-ghost use Rattle.shapes.specs.Limits.{cornerLimit};
-ghost use Rattle.board.specs.Boards.{begun, offered, cleared, listed, listedTo};
+ghost use Rattle.shapes.specs.Limits.{corner_limit};
+ghost use Rattle.board.specs.Boards.{begun, offered, cleared, listed, listed_to};
 
 pub mod inner; // inner.rt: what the entries do once their input is tested
 
@@ -43,7 +43,7 @@ pub struct Listed {
 
 /// A board with no runs. 6 if the row is outside 4,095; the board is then all 0.
 pub fn fresh(row: i64) -> Answer
-    ensures { result ≡ begun cornerLimit row }
+    ensures { result ≡ begun corner_limit row }
 {
     if within(row, CORNER) {
         return Answer {
@@ -58,7 +58,7 @@ pub fn fresh(row: i64) -> Answer
 /// 6 if the board is none that a fresh board can come to, or the span is of another row; 7 if the span is not empty and has a
 /// column outside 4,095; 8 if the union needs more than 32 runs. A refused board comes back as it was.
 pub fn offer(board: Board, span: Span) -> Answer
-    ensures { result ≡ offered cornerLimit board span }
+    ensures { result ≡ offered corner_limit board span }
 {
     if both(is_sound(board, CORNER), span.row == board.row) {
         if spans::is_sound(span, CORNER) {
@@ -71,7 +71,7 @@ pub fn offer(board: Board, span: Span) -> Answer
 
 /// The board's row with no runs. 6 if the board is none that a fresh board can come to; it then comes back as it was.
 pub fn clear(board: Board) -> Answer
-    ensures { result ≡ cleared cornerLimit board }
+    ensures { result ≡ cleared corner_limit board }
 {
     if is_sound(board, CORNER) {
         let blank = empty_board(board.row);
@@ -87,7 +87,7 @@ pub fn clear(board: Board) -> Answer
 /// columns; the rest of `out` keeps its content. 6 if the board is none that a fresh board can come to; 8 if `out` has fewer
 /// than two numbers for each run. Refused, `out` is as it was.
 pub fn list(board: Board, out: &mut [i64]) -> Listed
-    ensures { (result ≡ listed cornerLimit board (length out.old)) × (out.new ≡ listedTo cornerLimit board out.old) }
+    ensures { (result ≡ listed corner_limit board (length out.old)) × (out.new ≡ listed_to corner_limit board out.old) }
 {
     if is_sound(board, CORNER) {
         return list_sound(board, out);

@@ -18,18 +18,18 @@ use Rattle.whole.proofs.Columns.{count_same}
 use Rattle.whole.proofs.Linear.{opp}
 use Rattle.whole.proofs.Orders.{ordered}
 use Rattle.whole.proofs.Spans.{within_of}
-use Rattle.shapes.specs.Limits.{boardRuns}
+use Rattle.shapes.specs.Limits.{board_runs}
 use Rattle.shapes.specs.Spans.{span_of, is_empty, SpanSound}
 use Rattle.shapes.specs.declared.Span.{Span}
 use Rattle.board.specs.declared.Run.{Run}
 use Rattle.board.specs.declared.Board.{Board}
 use Rattle.board.specs.declared.Answer.{Answer}
 use Rattle.board.specs.Runs.{lit, total, Follows, Ascending, none, then, edge, with_run, flat}
-use Rattle.board.specs.Boards.{live, boardOf, Sound, isSound, begun, added, offered, offerRefusal, cleared, told, over, toldTo, listed, listedTo, listRefusal}
+use Rattle.board.specs.Boards.{live, board_of, Sound, is_sound, begun, added, offered, offer_refusal, cleared, told, over, told_to, listed, listed_to, list_refusal}
 use Rattle.board.proofs.Listing.{flat-length}
 use Rattle.board.proofs.Sound.{sound-iff, ascending-from}
-use Rattle.board_laws.specs.Offers.{withSpan, Proper, Offerable}
-use Rattle.board_laws.specs.Histories.{Event, offers, clears, lists, after, reached, accepted, covered, boardAfter, spansAfter, Lights, runsIn, ListedAlike, Demand3, Reachable}
+use Rattle.board_laws.specs.Offers.{with_span, Proper, Offerable}
+use Rattle.board_laws.specs.Histories.{Event, offers, clears, lists, after, reached, accepted, covered, board_after, spans_after, Lights, runs_in, ListedAlike, Demand3, Reachable}
 use Rattle.board_laws.proofs.Lit.{settled, total-columns}
 use Rattle.board_laws.proofs.Fewest.{fewest}
 use Rattle.board_laws.proofs.Offers.{live_of, sound-of, lit-span, ascending-span, offered-cases, added-either, added-row, added-runs, added-sound, added-eight, offered-added, offered-number, offer-six, offer-seven}
@@ -42,8 +42,8 @@ record Holds (k : ℕ) (y : ℤ) (b : Board) (held : List Span) : Type 0 where
   row : b.row ≡ y
   exact : Lights (live b) (covered held)
 
-blank : {k : ℕ} {y z : ℤ} → Within y k → y ≡ z → Holds k z (boardOf y []) []
-unfolding boardOf lit covered
+blank : {k : ℕ} {y z : ℤ} → Within y k → y ≡ z → Holds k z (board_of y []) []
+unfolding board_of lit covered
 blank {y} w e = record { sound = sound-of w (lit≤ tt) none; row = e; exact = λ x. rw (live_of y []) }
 
 module _ {k : ℕ} {y : ℤ} {b : Board} {held : List Span} (h : Holds k y b held) where
@@ -52,7 +52,7 @@ module _ {k : ℕ} {y : ℤ} {b : Board} {held : List Span} (h : Holds k y b hel
   unfolding covered
   united s x = ap (λ c. between s.start s.end x || c) (h.exact x)
 
-  offer-holds : (s : Span) → Holds k y (offered k b s).board (cond (eqb (offerRefusal k b s) 0) (s ∷ held) held)
+  offer-holds : (s : Span) → Holds k y (offered k b s).board (cond (eqb (offer_refusal k b s) 0) (s ∷ held) held)
   offer-holds s = offered-cases b s Kept k (λ _. h) (λ _ _ _. h) (λ o. ⊎_elim (accepts o) (λ full. rw full h) (added-either b s))
     where
       Kept : Answer → Type 0
@@ -89,7 +89,7 @@ unfolding reached after
 listing-keeps k b es out fs = reached-on k b es (lists out ∷ fs) ∙ sym (reached-on k b es fs)
 
 listed-alike : {k : ℕ} {b c : Board} → Sound k b → Sound k c → live b ≡ live c → ListedAlike k b c
-unfolding listed listedTo told toldTo
+unfolding listed listed_to told told_to
 listed-alike {k} {b} {c} s t e =
     record {
       runs = e;
@@ -97,26 +97,26 @@ listed-alike {k} {b} {c} s t e =
       writes = λ out. rw ((sound-iff k b).1 s, (sound-iff k c).1 t, e);
     }
 
-runs-back : (rs : List Run) (out : List ℤ) → runsIn (length rs) (flat rs ++ out) ≡ rs
-unfolding runsIn flat
+runs-back : (rs : List Run) (out : List ℤ) → runs_in (length rs) (flat rs ++ out) ≡ rs
+unfolding runs_in flat
 runs-back [] out = refl
 runs-back (r ∷ rs) out = ap (◌∷◌ r) (runs-back rs out)
 
 module _ (k : ℕ) (b : Board) (out : List ℤ) where
-  listing-writes : listRefusal k b (length out) ≡ 0 → runsIn (listed k b (length out)).count (listedTo k b out) ≡ live b
+  listing-writes : list_refusal k b (length out) ≡ 0 → runs_in (listed k b (length out)).count (listed_to k b out) ≡ live b
   unfolding over
   listing-writes e = rw (accepted-list k b (length out) e, accepted-numbers k b out e) (runs-back (live b) (drop (2 * length (live b)) out))
 
-  listing-sums : listRefusal k b (length out) ≡ 0 → (listed k b (length out)).total ≡ total (runsIn (listed k b (length out)).count (listedTo k b out))
+  listing-sums : list_refusal k b (length out) ≡ 0 → (listed k b (length out)).total ≡ total (runs_in (listed k b (length out)).count (listed_to k b out))
   listing-sums e = rw (listing-writes e, accepted-list k b (length out) e)
 
-  listing-beyond : drop (2 * length (live b)) (listedTo k b out) ≡ drop (2 * length (live b)) out
+  listing-beyond : drop (2 * length (live b)) (listed_to k b out) ≡ drop (2 * length (live b)) out
   unfolding over
-  listing-beyond = by (eqb (listRefusal k b (length out)) 0) refl
+  listing-beyond = by (eqb (list_refusal k b (length out)) 0) refl
     where
-      by : (t : Bool) → eqb (listRefusal k b (length out)) 0 ≡ t → drop (2 * length (live b)) (listedTo k b out) ≡ drop (2 * length (live b)) out
-      by true e = rw (accepted-numbers k b out (eqb-true (listRefusal k b (length out)) 0 e), ← flat-length (live b)) (drop-append_seam (flat (live b)) (drop (length (flat (live b))) out))
-      by false e = ap (drop (2 * length (live b))) (refused-numbers k b out (eqb-false (listRefusal k b (length out)) 0 e))
+      by : (t : Bool) → eqb (list_refusal k b (length out)) 0 ≡ t → drop (2 * length (live b)) (listed_to k b out) ≡ drop (2 * length (live b)) out
+      by true e = rw (accepted-numbers k b out (eqb-true (list_refusal k b (length out)) 0 e), ← flat-length (live b)) (drop-append_seam (flat (live b)) (drop (length (flat (live b))) out))
+      by false e = ap (drop (2 * length (live b))) (refused-numbers k b out (eqb-false (list_refusal k b (length out)) 0 e))
 
 -- ---- an offer that is otherwise sound, to any board that is handed in: what stands in its array beyond its runs changes nothing
 
@@ -125,21 +125,21 @@ module _ {k : ℕ} {b : Board} {s : Span} (o : Offerable k b s) where
   abbrev Unites : List Run → Type 0
   Unites rs = Lights rs (λ x. between s.start s.end x || lit (live b) x)
 
-  union-ascends : Ascending k (edge k) (withSpan s (live b))
+  union-ascends : Ascending k (edge k) (with_span s (live b))
   union-ascends = ascending-span s o.proper.inside o.sound.ascending
 
   -- 8 exactly when the union needs more than 32 runs
-  pub union-refused : offerRefusal k b s ≡ 8 → (rs : List Run) → Unites rs → boardRuns < length rs
+  pub union-refused : offer_refusal k b s ≡ 8 → (rs : List Run) → Unites rs → board_runs < length rs
   union-refused e rs lights = le_trans ((added-eight b s o.sound.few).0 (rw (offered-number o) at e)) (fewest union-ascends rs (λ x. lights x ∙ sym (lit-span s (live b) x)))
 
-  pub union-needed : ((rs : List Run) → Ascending k (edge k) rs → Unites rs → boardRuns < length rs) → offerRefusal k b s ≡ 8
-  union-needed needs = rw (offered-number o) ((added-eight b s o.sound.few).1 (needs (withSpan s (live b)) union-ascends (lit-span s (live b))))
+  pub union-needed : ((rs : List Run) → Ascending k (edge k) rs → Unites rs → board_runs < length rs) → offer_refusal k b s ≡ 8
+  union-needed needs = rw (offered-number o) ((added-eight b s o.sound.few).1 (needs (with_span s (live b)) union-ascends (lit-span s (live b))))
 
   -- and else 0: the board of its row that lights the union
-  pub union-either : (offerRefusal k b s ≡ 0) ⊎ (offerRefusal k b s ≡ 8)
+  pub union-either : (offer_refusal k b s ≡ 0) ⊎ (offer_refusal k b s ≡ 8)
   union-either = rw (offered-number o) (⊎_elim inl (λ full. inr (ap (λ a. a.refusal) full)) (added-either b s))
 
-  pub union-lit : offerRefusal k b s ≡ 0 → Sound k (offered k b s).board × (((offered k b s).board.row ≡ b.row) × Unites (live (offered k b s).board))
+  pub union-lit : offer_refusal k b s ≡ 0 → Sound k (offered k b s).board × (((offered k b s).board.row ≡ b.row) × Unites (live (offered k b s).board))
   union-lit e =
       rw (offered-added o)
       (added-sound o.sound o.proper.inside, (added-row b s, λ x. rw (added-runs b s o.sound.few (sym (offered-number o) ∙ e)) (lit-span s (live b) x)))
@@ -148,8 +148,8 @@ module _ {k : ℕ} {b : Board} {s : Span} (o : Offerable k b s) where
 
 pub demand-3 : (k : ℕ) (y : ℤ) → Within y k → (es : List Event) → Demand3 k y es
 demand-3 k y w es =
-    let b = boardAfter k y es in
-    let spans = spansAfter k y es in
+    let b = board_after k y es in
+    let spans = spans_after k y es in
     let h = holds es (begun-holds w) in
     let up = h.sound.ascending in
     let offer : (s : Span) → Proper k y s → Offerable k b s = λ s p. record { sound = h.sound; proper = record { same_row = p.same_row ∙ sym h.row; inside = p.inside } } in
@@ -180,7 +180,7 @@ demand-3 k y w es =
 
 -- ---- the test passes exactly the boards that histories reach
 
-pub reached-sound : (k : ℕ) (y : ℤ) → Within y k → (es : List Event) → Sound k (boardAfter k y es)
+pub reached-sound : (k : ℕ) (y : ℤ) → Within y k → (es : List Event) → Sound k (board_after k y es)
 reached-sound k y w es = (holds es (begun-holds w)).sound
 
 -- the history that offers the runs of a list, the last of them first
@@ -195,17 +195,17 @@ before-all r none = refl
 before-all r (then {r = q} f a) = let e : lt_z r.end q.start ≡ true = omega ordered in rw e
 
 module _ {k : ℕ} {y : ℤ} (w : Within y k) where
-  one_more : (r : Run) (rs : List Run) → Follows k (edge k) r → Ascending k r.end rs → length (r ∷ rs) ≤ boardRuns
-      → (offered k (boardOf y rs) (span_of y r.start r.end)).board ≡ boardOf y (r ∷ rs)
-  unfolding added is_empty boardOf
+  one_more : (r : Run) (rs : List Run) → Follows k (edge k) r → Ascending k r.end rs → length (r ∷ rs) ≤ board_runs
+      → (offered k (board_of y rs) (span_of y r.start r.end)).board ≡ board_of y (r ∷ rs)
+  unfolding added is_empty board_of
   one_more r rs f a few =
       let s = span_of y r.start r.end in
       let inside : SpanSound k s = λ x c. within_of (omega (ordered, c.from, opp (pos k))) (omega (ordered, c.below)) in
-      let o : Offerable k (boardOf y rs) s = record { sound = sound-of w (omega arith) (ascending-from a (omega ordered) (le_refl k)); proper = record { same_row = refl; inside = inside } } in
+      let o : Offerable k (board_of y rs) s = record { sound = sound-of w (omega arith) (ascending-from a (omega ordered) (le_refl k)); proper = record { same_row = refl; inside = inside } } in
       let some : le_z r.end r.start ≡ false = omega ordered in
-      ap (λ c. c.board) (offered-added o) ∙ rw (some, live_of y rs, before-all r a, le-leb (length (r ∷ rs)) boardRuns few)
+      ap (λ c. c.board) (offered-added o) ∙ rw (some, live_of y rs, before-all r a, le-leb (length (r ∷ rs)) board_runs few)
 
-  rebuilt : (rs : List Run) → Ascending k (edge k) rs → length rs ≤ boardRuns → boardAfter k y (offering y rs) ≡ boardOf y rs
+  rebuilt : (rs : List Run) → Ascending k (edge k) rs → length rs ≤ board_runs → board_after k y (offering y rs) ≡ board_of y rs
   unfolding reached offering after
   rebuilt [] a few = ap (λ c. c.board) ((fresh-chosen k y).holds w)
   rebuilt (r ∷ rs) (then f a) few =
@@ -213,8 +213,8 @@ module _ {k : ℕ} {y : ℤ} (w : Within y k) where
       ∙ ap (λ b. (offered k b (span_of y r.start r.end)).board) (rebuilt rs (ascending-from a (omega ordered) (le_refl k)) (omega arith))
       ∙ one_more r rs f a few
 
-pub sound-reachable : (k : ℕ) (b : Board) → length b.runs ≡ boardRuns → isSound k b ≡ true → Reachable k b
-unfolding live boardOf
+pub sound-reachable : (k : ℕ) (b : Board) → length b.runs ≡ board_runs → is_sound k b ≡ true → Reachable k b
+unfolding live board_of
 sound-reachable k b array passed =
     let s = (sound-iff k b).0 passed in
     let few = s.few in
@@ -228,7 +228,7 @@ sound-reachable k b array passed =
       same_runs = ap live same ∙ live_of b.row (live b);
     }
 
-pub reachable-sound : (k : ℕ) (b : Board) → Reachable k b → isSound k b ≡ true
+pub reachable-sound : (k : ℕ) (b : Board) → Reachable k b → is_sound k b ≡ true
 reachable-sound k b r =
     let s = reached-sound k b.row r.row_near r.history in
     (sound-iff k b).1 (record { row_near = r.row_near; few = rw r.same_count at s.few; ascending = rw r.same_runs at s.ascending })
@@ -237,16 +237,16 @@ reachable-sound k b r =
 
 module _ (k : ℕ) (b : Board) (s : Span) where
   -- 6 exactly when no fresh board can come to the board, or the rows differ
-  pub six-refuses : offerRefusal k b s ≡ 6 → Reachable k b → s.row ≡ b.row → ⊥
+  pub six-refuses : offer_refusal k b s ≡ 6 → Reachable k b → s.row ≡ b.row → ⊥
   six-refuses e r same = (offer-six k b s).0 e ((sound-iff k b).0 (reachable-sound k b r), same)
 
-  pub refused-six : length b.runs ≡ boardRuns → (Reachable k b → s.row ≡ b.row → ⊥) → offerRefusal k b s ≡ 6
+  pub refused-six : length b.runs ≡ board_runs → (Reachable k b → s.row ≡ b.row → ⊥) → offer_refusal k b s ≡ 6
   refused-six array never = (offer-six k b s).1 (λ h. never (sound-reachable k b array ((sound-iff k b).1 h.0)) h.1)
 
   -- 7 exactly when the span "has a column outside 4,095", which an empty one has not
   module _ (r : Reachable k b) (same : s.row ≡ b.row) where
-    pub seven-refuses : offerRefusal k b s ≡ 7 → SpanSound k s → ⊥
+    pub seven-refuses : offer_refusal k b s ≡ 7 → SpanSound k s → ⊥
     seven-refuses e = ((offer-seven k b s).0 e).1
 
-    pub refused-seven : (SpanSound k s → ⊥) → offerRefusal k b s ≡ 7
+    pub refused-seven : (SpanSound k s → ⊥) → offer_refusal k b s ≡ 7
     refused-seven far = (offer-seven k b s).1 (((sound-iff k b).0 (reachable-sound k b r), same), far)

@@ -13,8 +13,8 @@ use Rattle.whole.proofs.Tests.{or_left, or_right}
 use Rattle.whole.proofs.Orders.{ordered}
 use Rattle.whole.proofs.Columns.{between-yes, between-low, between-high}
 use Rattle.board.specs.declared.Run.{Run}
-use Rattle.board.specs.Runs.{inRun, lit, Follows, Ascending, none, then}
-use Rattle.board_laws.proofs.Lit.{dark, first-lit, gap-dark}
+use Rattle.board.specs.Runs.{in_run, lit, Follows, Ascending, none, then}
+use Rattle.board_laws.proofs.Lit.{dark, first_lit, gap-dark}
 
 -- the runs of a list that begin after a column e
 later : ℤ → List Run → List Run
@@ -22,11 +22,11 @@ later e [] = []
 later e (q ∷ qs) = cond (lt_z e q.start) (q ∷ later e qs) (later e qs)
 
 -- a run that begins at e or before, and does not light e, lights nothing after e
-ends_by : (q : Run) (e x : ℤ) → q.start ≤ℤ e → e <ℤ x → (t : Bool) → lt_z e q.end ≡ t → inRun q e ≡ false → inRun q x ≡ false
+ends_by : (q : Run) (e x : ℤ) → q.start ≤ℤ e → e <ℤ x → (t : Bool) → lt_z e q.end ≡ t → in_run q e ≡ false → in_run q x ≡ false
 ends_by q e x l after true h off = absurd (false≢true (sym off ∙ between-yes q.start q.end e (omega ordered) h))
 ends_by q e x l after false h off = between-high q.start q.end x (omega ordered)
 
-ends-before : (q : Run) (e x : ℤ) → q.start ≤ℤ e → inRun q e ≡ false → e <ℤ x → inRun q x ≡ false
+ends-before : (q : Run) (e x : ℤ) → q.start ≤ℤ e → in_run q e ≡ false → e <ℤ x → in_run q x ≡ false
 ends-before q e x l off after = ends_by q e x l after (lt_z e q.end) refl off
 
 -- ---- one run more
@@ -44,7 +44,7 @@ module _ (e : ℤ) (q : Run) (qs : List Run) where
   dark-by x l false h more = rw h more
 
   -- after e they light what all do, where e itself is dark
-  same_by : (x : ℤ) → e <ℤ x → (t : Bool) → lt_z e q.start ≡ t → inRun q e ≡ false → lit qs x ≡ lit (later e qs) x → lit (q ∷ qs) x ≡ lit (later e (q ∷ qs)) x
+  same_by : (x : ℤ) → e <ℤ x → (t : Bool) → lt_z e q.start ≡ t → in_run q e ≡ false → lit qs x ≡ lit (later e qs) x → lit (q ∷ qs) x ≡ lit (later e (q ∷ qs)) x
   unfolding later lit
   same_by x l true h off more = rw (h, more)
   same_by x l false h off more = rw (h, ends-before q e x (omega ordered) off l) more
@@ -75,7 +75,7 @@ later_same : (e : ℤ) (qs : List Run) (x : ℤ) → e <ℤ x → lit qs e ≡ f
 unfolding later lit
 later_same e [] x l off = refl
 later_same e (q ∷ qs) x l off =
-    same_by e q qs x l (lt_z e q.start) refl (or_left (inRun q e) (lit qs e) off) (later_same e qs x l (or_right (inRun q e) (lit qs e) off))
+    same_by e q qs x l (lt_z e q.start) refl (or_left (in_run q e) (lit qs e) off) (later_same e qs x l (or_right (in_run q e) (lit qs e) off))
 
 later-less : (e : ℤ) (qs : List Run) (x : ℤ) → x ≤ℤ e → lit qs x ≡ true → length (later e qs) < length qs
 unfolding later lit
@@ -92,6 +92,6 @@ module _ {k : ℕ} {last : ℤ} {r : Run} {rs : List Run} (f : Follows k last r)
 pub fewest : {k : ℕ} {last : ℤ} {rs : List Run} → Ascending k last rs → (qs : List Run) → ((x : ℤ) → lit qs x ≡ lit rs x) → length rs ≤ length qs
 fewest none qs same = zero-le
 fewest (then {r} {rs} f a) qs same =
-    let less = later-less r.end qs r.start (omega ordered) (same r.start ∙ first-lit f rs) in
+    let less = later-less r.end qs r.start (omega ordered) (same r.start ∙ first_lit f rs) in
     let rest = fewest a (later r.end qs) (λ x. rest-by f a qs same x (lt_z r.end x) refl) in
     omega arith

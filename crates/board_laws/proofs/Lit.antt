@@ -7,13 +7,13 @@ use Prim.Native.Nat.{ℕ, suc, ◌+◌, ◌*◌}
 use native.Mathlib.Nat.{le_refl}
 use lib.IntN.{ℤ, pos, negsuc, neg_ℤ, ◌+ℤ◌, ◌-ℤ◌}
 use lib.Signed.{lt_z, ◌≤ℤ◌}
-use Rattle.whole.specs.Columns.{countFrom}
+use Rattle.whole.specs.Columns.{count_from}
 use Rattle.whole.proofs.Linear.{linear, sum, opp}
 use Rattle.whole.proofs.Orders.{ordered}
 use Rattle.whole.proofs.Tests.{clash}
 use Rattle.whole.proofs.Columns.{between-yes, between-low, between-high, between-lt, count_none, count-either, count-between}
 use Rattle.board.specs.declared.Run.{Run}
-use Rattle.board.specs.Runs.{run_of, inRun, lit, total, Follows, Ascending, none, then, edge}
+use Rattle.board.specs.Runs.{run_of, in_run, lit, total, Follows, Ascending, none, then, edge}
 use Rattle.board.proofs.Sound.{follows-from}
 use Rattle.board_laws.specs.Histories.{columns}
 
@@ -26,9 +26,9 @@ dark (then {r} f a) x h = rw (between-low r.start r.end x (omega ordered), dark 
 
 -- a run's own first column, and the column after it
 module _ {k : ℕ} {last : ℤ} {r : Run} (f : Follows k last r) where
-  pub first-lit : (rs : List Run) → lit (r ∷ rs) r.start ≡ true
+  pub first_lit : (rs : List Run) → lit (r ∷ rs) r.start ≡ true
   unfolding lit
-  first-lit rs = rw (between-yes r.start r.end r.start (omega ordered) (omega ordered))
+  first_lit rs = rw (between-yes r.start r.end r.start (omega ordered) (omega ordered))
 
   pub gap-dark : {rs : List Run} → Ascending k r.end rs → lit (r ∷ rs) r.end ≡ false
   unfolding lit
@@ -42,7 +42,7 @@ module _ {k m : ℕ} {l n : ℤ} {r q : Run} {rs qs : List Run} (f : Follows k l
   no-earlier false e = refl
   no-earlier true e =
       let before = dark (then {last = q.start} (follows-from f (omega ordered) (le_refl k)) a) q.start (omega ordered) in
-      sym (first-lit g qs) ∙ (sym (same q.start) ∙ before)
+      sym (first_lit g qs) ∙ (sym (same q.start) ∙ before)
 
   no_longer : r.start ≡ q.start → (t : Bool) → lt_z r.end q.end ≡ t → t ≡ false
   unfolding lit
@@ -60,8 +60,8 @@ module _ {k m : ℕ} {l n : ℤ} {r q : Run} {rs qs : List Run} (f : Follows k l
 pub settled : {k m : ℕ} {l n : ℤ} {rs qs : List Run} → Ascending k l rs → Ascending m n qs → ((x : ℤ) → lit rs x ≡ lit qs x) → rs ≡ qs
 unfolding lit
 settled none none same = refl
-settled none (then {r} {rs} g b) same = absurd (clash (first-lit g rs) (sym (same r.start)))
-settled (then {r} {rs} f a) none same = absurd (clash (first-lit f rs) (same r.start))
+settled none (then {r} {rs} g b) same = absurd (clash (first_lit g rs) (sym (same r.start)))
+settled (then {r} {rs} f a) none same = absurd (clash (first_lit f rs) (same r.start))
 settled (then {r} {rs} f a) (then {r = q} {rs = qs} g b) same =
     let back : (x : ℤ) → lit (q ∷ qs) x ≡ lit (r ∷ rs) x = λ x. sym (same x) in
     let p = no-earlier f a g b same (lt_z q.start r.start) refl in
@@ -76,11 +76,11 @@ settled (then {r} {rs} f a) (then {r = q} {rs = qs} g b) same =
 -- ---- the total counts the lit columns, among any n from x on that hold them all
 
 pub total-counts : {k : ℕ} {last : ℤ} {rs : List Run} → Ascending k last rs → (x : ℤ) (n : ℕ) → x ≤ℤ (last +ℤ pos 1) → pos (suc k) ≤ℤ (x +ℤ pos n)
-    → total rs ≡ pos (countFrom (lit rs) x n)
+    → total rs ≡ pos (count_from (lit rs) x n)
 unfolding lit total
 total-counts none x n p q = ap pos (sym (count_none x n))
 total-counts {last} (then {r} {rs} f a) x n p q =
-    let once = count-either (inRun r) (lit rs) x n (λ y h. dark a y (omega (ordered, between-lt r.start r.end y h))) in
+    let once = count-either (in_run r) (lit rs) x n (λ y h. dark a y (omega (ordered, between-lt r.start r.end y h))) in
     let here = count-between r.start r.end x n (omega (ordered, sum last (pos 1))) (omega ordered) (omega ordered) in
     let rest = total-counts a x n (omega (ordered, sum last (pos 1), sum r.end (pos 1))) q in
     omega (linear, once, sum (r.end -ℤ r.start) (total rs))

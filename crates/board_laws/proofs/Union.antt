@@ -12,20 +12,20 @@ use Rattle.whole.proofs.Columns.{lt-lesser, greater-le, between-joined}
 use Rattle.whole.proofs.Laws.{lesser-le, le-greater}
 use Rattle.whole.proofs.Orders.{ordered}
 use Rattle.board.specs.declared.Run.{Run}
-use Rattle.board.specs.Runs.{inRun, lit, joined, with_run, Follows, Ascending, none, then}
+use Rattle.board.specs.Runs.{in_run, lit, joined, with_run, Follows, Ascending, none, then}
 use Rattle.board.proofs.Sound.{follows-from, ascending-from}
 
 -- ---- the columns
 
 lit-by : (r q : Run) (qs : List Run) (x : ℤ) (t u : Bool) → lt_z r.end q.start ≡ t → lt_z q.end r.start ≡ u
-    → ((p : Run) → lit (with_run p qs) x ≡ (inRun p x || lit qs x)) → lit (with_run r (q ∷ qs)) x ≡ (inRun r x || lit (q ∷ qs) x)
+    → ((p : Run) → lit (with_run p qs) x ≡ (in_run p x || lit qs x)) → lit (with_run r (q ∷ qs)) x ≡ (in_run r x || lit (q ∷ qs) x)
 unfolding lit with_run joined
 lit-by r q qs x true u e f more = rw e
-lit-by r q qs x false true e f more = rw (e, f, more r) (or_swap (inRun q x) (inRun r x) (lit qs x))
+lit-by r q qs x false true e f more = rw (e, f, more r) (or_swap (in_run q x) (in_run r x) (lit qs x))
 lit-by r q qs x false false e f more =
-    rw (e, f, more (joined r q), between-joined r.start r.end q.start q.end x e f) (or_assoc (inRun r x) (inRun q x) (lit qs x))
+    rw (e, f, more (joined r q), between-joined r.start r.end q.start q.end x e f) (or_assoc (in_run r x) (in_run q x) (lit qs x))
 
-pub lit-with : (r : Run) (rs : List Run) (x : ℤ) → lit (with_run r rs) x ≡ (inRun r x || lit rs x)
+pub lit-with : (r : Run) (rs : List Run) (x : ℤ) → lit (with_run r rs) x ≡ (in_run r x || lit rs x)
 unfolding lit with_run
 lit-with r [] x = refl
 lit-with r (q ∷ qs) x = lit-by r q qs x (lt_z r.end q.start) (lt_z q.end r.start) refl refl (λ p. lit-with p qs x)

@@ -5,11 +5,11 @@ use Rattle.shapes.specs.declared.Span.{Span}
 use Rattle.board.specs.declared.Run.{Run}
 use Rattle.board.specs.declared.Board.{Board}
 use Rattle.board.specs.Runs.{with_run}
-use Rattle.board.specs.Boards.{Sound, spanRun}
+use Rattle.board.specs.Boards.{Sound, span_run}
 
 -- an empty span "changes nothing"
-unfoldable pub withSpan : Span → List Run → List Run
-withSpan s rs = cond (is_empty s) rs (with_run (spanRun s) rs)
+unfoldable pub with_span : Span → List Run → List Run
+with_span s rs = cond (is_empty s) rs (with_run (span_run s) rs)
 
 -- a span of the row y with all its columns from -k to k
 pub record Proper (k : ℕ) (y : ℤ) (s : Span) : Type 0 where

@@ -10,14 +10,14 @@ use lib.IntN.{ℤ}
 use lib.ListN.{length, take, drop, take-append-drop}
 use lib.Seq.{take-append_seam}
 use Rattle.whole.proofs.Tests.{and-iff, leb-iff}
-use Rattle.shapes.specs.Limits.{boardRuns}
+use Rattle.shapes.specs.Limits.{board_runs}
 use Rattle.board.specs.declared.Run.{Run}
 use Rattle.board.specs.declared.Board.{Board}
-use Rattle.board.specs.Boards.{live, Sound, isSound, notListed, listing, over}
+use Rattle.board.specs.Boards.{live, Sound, is_sound, not_listed, listing, over}
 use Rattle.board.proofs.Sound.{sound-iff}
 use Rattle.board_laws.proofs.Offers.{live-few}
 use Rattle.board_laws.proofs.Refused.{answer, accepted-by, refused-by, written-by, kept_by, zero-by, six-by, eight-by}
-use Rattle.board_records.specs.Records.{hasRoom, bothRefusal, bothListed, numbersTo, recordsOver, recordsTo}
+use Rattle.board_records.specs.Records.{has_room, both_refusal, both_listed, numbers_to, records_over, records_to}
 
 -- ---- refused exactly when
 
@@ -25,55 +25,55 @@ use Rattle.board_records.specs.Records.{hasRoom, bothRefusal, bothListed, number
 abbrev pub Room : Board → ℕ → ℕ → Type 0
 Room b n m = (2 * length (live b) ≤ n) × (length (live b) ≤ m)
 
-room-iff : (b : Board) (n m : ℕ) → (hasRoom b n m ≡ true) ↔ Room b n m
+room-iff : (b : Board) (n m : ℕ) → (has_room b n m ≡ true) ↔ Room b n m
 room-iff b n m = and-iff (leb (2 * length (live b)) n) (leb (length (live b)) m) (leb-iff (2 * length (live b)) n) (leb-iff (length (live b)) m)
 
 module _ (k : ℕ) (b : Board) (n m : ℕ) where
-  pub zero-exactly : (bothRefusal k b n m ≡ 0) ↔ (Sound k b × Room b n m)
-  unfolding bothListed
-  zero-exactly = zero-by b k (hasRoom b n m) (room-iff b n m)
+  pub zero-exactly : (both_refusal k b n m ≡ 0) ↔ (Sound k b × Room b n m)
+  unfolding both_listed
+  zero-exactly = zero-by b k (has_room b n m) (room-iff b n m)
 
-  pub six-exactly : (bothRefusal k b n m ≡ 6) ↔ (Sound k b → ⊥)
-  unfolding bothListed
-  six-exactly = six-by b k (hasRoom b n m) (room-iff b n m)
+  pub six-exactly : (both_refusal k b n m ≡ 6) ↔ (Sound k b → ⊥)
+  unfolding both_listed
+  six-exactly = six-by b k (has_room b n m) (room-iff b n m)
 
-  pub eight-exactly : (bothRefusal k b n m ≡ 8) ↔ (Sound k b × (Room b n m → ⊥))
-  unfolding bothListed
-  eight-exactly = eight-by b k (hasRoom b n m) (room-iff b n m)
+  pub eight-exactly : (both_refusal k b n m ≡ 8) ↔ (Sound k b × (Room b n m → ⊥))
+  unfolding both_listed
+  eight-exactly = eight-by b k (has_room b n m) (room-iff b n m)
 
   -- ---- what is answered, and what the lists hold afterwards
 
-  pub accepted-answer : bothRefusal k b n m ≡ 0 → bothListed k b n m ≡ listing b
-  unfolding bothListed
-  accepted-answer = accepted-by b (isSound k b) (hasRoom b n m)
+  pub accepted-answer : both_refusal k b n m ≡ 0 → both_listed k b n m ≡ listing b
+  unfolding both_listed
+  accepted-answer = accepted-by b (is_sound k b) (has_room b n m)
 
-  pub refused-answer : bothRefusal k b n m ≢ 0 → bothListed k b n m ≡ notListed (bothRefusal k b n m)
-  unfolding bothListed
-  refused-answer = refused-by b (isSound k b) (hasRoom b n m)
+  pub refused-answer : both_refusal k b n m ≢ 0 → both_listed k b n m ≡ not_listed (both_refusal k b n m)
+  unfolding both_listed
+  refused-answer = refused-by b (is_sound k b) (has_room b n m)
 
 module _ (k : ℕ) (b : Board) (out : List ℤ) (m : ℕ) where
   -- the runs' numbers, and then what was there
-  pub accepted-numbers : bothRefusal k b (length out) m ≡ 0 → numbersTo k b out m ≡ over out (live b)
-  unfolding bothListed numbersTo
-  accepted-numbers = written-by b (over out (live b)) out (isSound k b) (hasRoom b (length out) m)
+  pub accepted-numbers : both_refusal k b (length out) m ≡ 0 → numbers_to k b out m ≡ over out (live b)
+  unfolding both_listed numbers_to
+  accepted-numbers = written-by b (over out (live b)) out (is_sound k b) (has_room b (length out) m)
 
-  pub refused-numbers : bothRefusal k b (length out) m ≢ 0 → numbersTo k b out m ≡ out
-  unfolding bothListed numbersTo
-  refused-numbers = kept_by b (over out (live b)) out (isSound k b) (hasRoom b (length out) m)
+  pub refused-numbers : both_refusal k b (length out) m ≢ 0 → numbers_to k b out m ≡ out
+  unfolding both_listed numbers_to
+  refused-numbers = kept_by b (over out (live b)) out (is_sound k b) (has_room b (length out) m)
 
 module _ (k : ℕ) (b : Board) (n : ℕ) (records : List Run) where
   -- the runs, and then what was there
-  pub accepted-records : bothRefusal k b n (length records) ≡ 0 → recordsTo k b n records ≡ live b ++ drop (length (live b)) records
-  unfolding bothListed recordsTo recordsOver
-  accepted-records = written-by b (recordsOver records (live b)) records (isSound k b) (hasRoom b n (length records))
+  pub accepted-records : both_refusal k b n (length records) ≡ 0 → records_to k b n records ≡ live b ++ drop (length (live b)) records
+  unfolding both_listed records_to records_over
+  accepted-records = written-by b (records_over records (live b)) records (is_sound k b) (has_room b n (length records))
 
   -- what is read back are the runs
-  pub records-read : bothRefusal k b n (length records) ≡ 0 → take (bothListed k b n (length records)).count (recordsTo k b n records) ≡ live b
+  pub records-read : both_refusal k b n (length records) ≡ 0 → take (both_listed k b n (length records)).count (records_to k b n records) ≡ live b
   records-read e = rw (accepted-answer k b n (length records) e, accepted-records e) (take-append_seam (live b) (drop (length (live b)) records))
 
-  pub refused-records : bothRefusal k b n (length records) ≢ 0 → recordsTo k b n records ≡ records
-  unfolding bothListed recordsTo
-  refused-records = kept_by b (recordsOver records (live b)) records (isSound k b) (hasRoom b n (length records))
+  pub refused-records : both_refusal k b n (length records) ≢ 0 → records_to k b n records ≡ records
+  unfolding both_listed records_to
+  refused-records = kept_by b (records_over records (live b)) records (is_sound k b) (has_room b n (length records))
 
 -- ---- as many runs as the answer counts are copied: none where it is refused
 
@@ -84,22 +84,22 @@ take-live b =
     ap (take (length first)) (sym (take-append-drop b.count b.runs)) ∙ take-append_seam first (drop b.count b.runs)
 
 module _ (k : ℕ) (b : Board) (n : ℕ) (records : List Run) where
-  room_by : (t u : Bool) → isSound k b ≡ t → hasRoom b n (length records) ≡ u → ((answer b t u).count ≤ boardRuns) × ((answer b t u).count ≤ length records)
+  room_by : (t u : Bool) → is_sound k b ≡ t → has_room b n (length records) ≡ u → ((answer b t u).count ≤ board_runs) × ((answer b t u).count ≤ length records)
   room_by true true e f = (omega (arith, live-few b, ((sound-iff k b).0 e).few), ((room-iff b n (length records)).0 f).1)
   room_by true false e f = (zero-le, zero-le)
   room_by false u e f = (zero-le, zero-le)
 
-  copied-by : (t u : Bool) → recordsOver records (take (answer b t u).count b.runs) ≡ cond t (cond u (recordsOver records (live b)) records) records
-  unfolding recordsOver
+  copied-by : (t u : Bool) → records_over records (take (answer b t u).count b.runs) ≡ cond t (cond u (records_over records (live b)) records) records
+  unfolding records_over
   copied-by true true = rw (take-live b)
   copied-by true false = refl
   copied-by false u = refl
 
   -- there is room for them
-  pub room-copied : ((bothListed k b n (length records)).count ≤ boardRuns) × ((bothListed k b n (length records)).count ≤ length records)
-  unfolding bothListed
-  room-copied = room_by (isSound k b) (hasRoom b n (length records)) refl refl
+  pub room-copied : ((both_listed k b n (length records)).count ≤ board_runs) × ((both_listed k b n (length records)).count ≤ length records)
+  unfolding both_listed
+  room-copied = room_by (is_sound k b) (has_room b n (length records)) refl refl
 
-  pub records-copied : recordsOver records (take (bothListed k b n (length records)).count b.runs) ≡ recordsTo k b n records
-  unfolding bothListed recordsTo
-  records-copied = copied-by (isSound k b) (hasRoom b n (length records))
+  pub records-copied : records_over records (take (both_listed k b n (length records)).count b.runs) ≡ records_to k b n records
+  unfolding both_listed records_to
+  records-copied = copied-by (is_sound k b) (has_room b n (length records))

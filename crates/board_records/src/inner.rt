@@ -1,7 +1,7 @@
 //! What the entry does to each of the two lists.
 ghost use Rattle.std.specs.Prelude.{◌≡◌, ◌≤◌, length, take};
-ghost use Rattle.shapes.specs.Limits.{boardRuns, lineLimit};
-ghost use Rattle.board_records.specs.Records.{bothListed, numbersTo, recordsOver};
+ghost use Rattle.shapes.specs.Limits.{board_runs, line_limit};
+ghost use Rattle.board_records.specs.Records.{both_listed, numbers_to, records_over};
 
 use board::inner::{is_sound, list_sound, not_listed, run_at};
 use board::{Board, Listed, Run};
@@ -11,8 +11,8 @@ use shapes::refusals::{ROOM, ROW};
 /// most 2^14. 6 if the board is none that a fresh board can come to; 8 if `out` has fewer than two numbers for each run, or `room` is less
 /// than the number of runs. Refused, `out` is as it was.
 pub fn list_within(board: Board, limit: u32, room: usize, out: &mut [i64]) -> Listed
-    requires { limit ≤ lineLimit }
-    ensures { (result ≡ bothListed limit board (length out.old) room) × (out.new ≡ numbersTo limit board out.old room) }
+    requires { limit ≤ line_limit }
+    ensures { (result ≡ both_listed limit board (length out.old) room) × (out.new ≡ numbers_to limit board out.old room) }
 {
     if is_sound(board, limit) {
         if board.count <= room {
@@ -25,8 +25,8 @@ pub fn list_within(board: Board, limit: u32, room: usize, out: &mut [i64]) -> Li
 
 /// Writes the first `count` runs to the front of a list of records; the rest of it keeps its content.
 pub fn copy_runs(board: Board, count: usize, records: &mut [Run])
-    requires { (count ≤ boardRuns) × (count ≤ length records.old) }
-    ensures { records.new ≡ recordsOver records.old (take count board.runs) }
+    requires { (count ≤ board_runs) × (count ≤ length records.old) }
+    ensures { records.new ≡ records_over records.old (take count board.runs) }
 {
     let mut i: usize = 0;
     while i < count {

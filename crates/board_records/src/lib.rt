@@ -1,7 +1,7 @@
 //! A board's runs as records: the second listing of a board.
 ghost use Rattle.std.specs.Prelude.{◌≡◌, length};
-ghost use Rattle.shapes.specs.Limits.{cornerLimit};
-ghost use Rattle.board_records.specs.Records.{bothListed, numbersTo, recordsTo};
+ghost use Rattle.shapes.specs.Limits.{corner_limit};
+ghost use Rattle.board_records.specs.Records.{both_listed, numbers_to, records_to};
 
 pub mod inner; // inner.rt: what is done to each of the two lists
 
@@ -14,9 +14,9 @@ use shapes::limits::CORNER;
 /// can come to; 8 if `out` has fewer than two numbers, or `records` fewer than one record, for each run. Refused, both lists
 /// are as they were.
 pub fn list_records(board: Board, out: &mut [i64], records: &mut [Run]) -> Listed
-    ensures { (result ≡ bothListed cornerLimit board (length out.old) (length records.old))
-        × ((out.new ≡ numbersTo cornerLimit board out.old (length records.old))
-        × (records.new ≡ recordsTo cornerLimit board (length out.old) records.old)) }
+    ensures { (result ≡ both_listed corner_limit board (length out.old) (length records.old))
+        × ((out.new ≡ numbers_to corner_limit board out.old (length records.old))
+        × (records.new ≡ records_to corner_limit board (length out.old) records.old)) }
 {
     let answer = list_within(board, CORNER, records.len(), out);
     copy_runs(board, answer.count, records);

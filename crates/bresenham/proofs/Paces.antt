@@ -14,34 +14,34 @@ use Rattle.shapes.specs.declared.Point.{Point}
 use Rattle.shapes.specs.Shape.{plus}
 use Rattle.bresenham.specs.declared.Parameters.{Parameters}
 use Rattle.bresenham.specs.Walk.{place_of, along, turned, handed, next_of}
-use Rattle.bresenham.specs.Points.{pointsFrom}
-use Rattle.bresenham.specs.Paces.{counted, turns, Paced, turnsAt, moved, moved_to, valuesFrom}
+use Rattle.bresenham.specs.Points.{points_from}
+use Rattle.bresenham.specs.Paces.{counted, turns, Paced, turns_at, moved, moved_to, values_from}
 
 -- ---- numbers alone: t is a quotient of n
 
-pub turns-paced : {a c n : ℕ} → 0 < a → Paced a c n (turnsAt a c n)
-unfolding turnsAt
+pub turns-paced : {a c n : ℕ} → 0 < a → Paced a c n (turns_at a c n)
+unfolding turns_at
 turns-paced {a} {c} {n} some =
     let N = n * (2 * c) + (a - 1) in
     let low = div-mul-le_self N (2 * a) in
     let high = lt-div-mul-add {a = N} {b = 2 * a} (omega arith) in
     record { below = low; above = omega arith }
 
-pub paced-turns : {a c n t : ℕ} → 0 < a → Paced a c n t → turnsAt a c n ≡ t
-unfolding turnsAt
+pub paced-turns : {a c n t : ℕ} → 0 < a → Paced a c n t → turns_at a c n ≡ t
+unfolding turns_at
 paced-turns {a} some w = div-eq_of_lt-le (2 * a) w.below (omega arith)
 
 -- more points, no fewer minor moves, and no more than c in all
-pub turns-mono : (a c : ℕ) {m n : ℕ} → m ≤ n → turnsAt a c m ≤ turnsAt a c n
-unfolding turnsAt
+pub turns-mono : (a c : ℕ) {m n : ℕ} → m ≤ n → turns_at a c m ≤ turns_at a c n
+unfolding turns_at
 turns-mono a c {m} {n} h =
     ⊎_elim
     (λ (none : a ≤ 0). let z : a ≡ 0 = omega arith in rw z (simp div-zero (omega arith)))
-    (λ (some : 0 < a). let low = div-mul-le_self (m * (2 * c) + (a - 1)) (2 * a) in (le-div_iff_mul-le {k = 2 * a} {x = turnsAt a c m} {y = n * (2 * c) + (a - 1)} (omega arith)).1 (omega (arith, mul-le-mul_right (2 * c) h)))
+    (λ (some : 0 < a). let low = div-mul-le_self (m * (2 * c) + (a - 1)) (2 * a) in (le-div_iff_mul-le {k = 2 * a} {x = turns_at a c m} {y = n * (2 * c) + (a - 1)} (omega arith)).1 (omega (arith, mul-le-mul_right (2 * c) h)))
     (le-or-lt a 0)
 
-pub turns-most : (a c : ℕ) {n : ℕ} → n ≤ a → turnsAt a c n ≤ c
-unfolding turnsAt
+pub turns-most : (a c : ℕ) {n : ℕ} → n ≤ a → turns_at a c n ≤ c
+unfolding turns_at
 turns-most a c {n} h =
     ⊎_elim
     (λ (none : a ≤ 0). let z : a ≡ 0 = omega arith in rw z (simp div-zero (omega arith)))
@@ -49,18 +49,18 @@ turns-most a c {n} h =
     (le-or-lt a 0)
 
 -- for the points of the walk, also where it has no move
-idle : {a n : ℕ} (c : ℕ) → n ≤ a → a ≤ 0 → turnsAt a c n ≡ 0
-unfolding turnsAt
+idle : {a n : ℕ} (c : ℕ) → n ≤ a → a ≤ 0 → turns_at a c n ≡ 0
+unfolding turns_at
 idle {a} {n} c h none = let z : a ≡ 0 = omega arith in rw z (div-zero (n * (2 * c) + 0))
 
-pub turns-within : {a c n : ℕ} → c ≤ a → n ≤ a → Paced a c n (turnsAt a c n)
+pub turns-within : {a c n : ℕ} → c ≤ a → n ≤ a → Paced a c n (turns_at a c n)
 turns-within {a} {c} {n} less h =
     ⊎_elim
     (λ none. rw (idle c h none) (let z : n ≡ 0 = omega arith in rw z (record { below = omega arith; above = omega arith })))
     (λ some. turns-paced some)
     (le-or-lt a 0)
 
-pub within-turns : {a c n t : ℕ} → c ≤ a → n ≤ a → t ≤ c → Paced a c n t → turnsAt a c n ≡ t
+pub within-turns : {a c n t : ℕ} → c ≤ a → n ≤ a → t ≤ c → Paced a c n t → turns_at a c n ≡ t
 within-turns {a} {c} {n} {t} less h most w = ⊎_elim (λ none. idle c h none ∙ omega arith) (λ some. paced-turns some w) (le-or-lt a 0)
 
 -- ---- the walk goes from pos-suc such place to the next
@@ -114,7 +114,7 @@ module _ (M m : Point) (a c : ℕ) (q : Point) (some : 0 < a) (less : c ≤ a) w
   error-is n t = ring 4 (λ n g t l. con (pos 0) ⊕ n ⊗ g ⊕ t ⊗ neg l ≈ n ⊗ g ⊖ t ⊗ l) refl (pos n) (pos (2 * c)) (pos t) (pos (2 * a))
 
   -- the minor moves made at a place are those that the pace asks for
-  counted-by : (n t : ℕ) (d : Bool) → lt_z (pos a) (moved_to p q n t).error ≡ d → Ready n t → cond d (suc t) t ≡ turnsAt a c n
+  counted-by : (n t : ℕ) (d : Bool) → lt_z (pos a) (moved_to p q n t).error ≡ d → Ready n t → cond d (suc t) t ≡ turns_at a c n
   counted-by n t true e r =
       let far = diff (pos (n * (2 * c))) (pos (t * (2 * a))) in
       let error = error-is n t in
@@ -124,33 +124,33 @@ module _ (M m : Point) (a c : ℕ) (q : Point) (some : 0 < a) (less : c ≤ a) w
       let error = error-is n t in
       sym (paced-turns some (record { below = r.below; above = omega linear }))
 
-  counted_is : (n t : ℕ) → Ready n t → counted p (moved_to p q n t) t ≡ turnsAt a c n
+  counted_is : (n t : ℕ) → Ready n t → counted p (moved_to p q n t) t ≡ turns_at a c n
   unfolding along
   counted_is n t r = counted-by n t (lt_z (pos a) (moved_to p q n t).error) refl r
 
-  next-is : (n t : ℕ) → Ready n t → next_of p (moved_to p q n t) ≡ record { point = (moved_to p q n (turnsAt a c n)).point; state = moved_to p q (suc n) (turnsAt a c n) }
+  next-is : (n t : ℕ) → Ready n t → next_of p (moved_to p q n t) ≡ record { point = (moved_to p q n (turns_at a c n)).point; state = moved_to p q (suc n) (turns_at a c n) }
   unfolding next_of handed along
-  next-is n t r = rw (turned_by p q n t (lt_z (pos a) (moved_to p q n t).error) refl, counted_is n t r, major-moved p q n (turnsAt a c n))
+  next-is n t r = rw (turned_by p q n t (lt_z (pos a) (moved_to p q n t).error) refl, counted_is n t r, major-moved p q n (turns_at a c n))
 
-  ready-next : (n : ℕ) → Ready (suc n) (turnsAt a c n)
+  ready-next : (n : ℕ) → Ready (suc n) (turns_at a c n)
   ready-next n = let w = turns-paced {c = c} {n = n} some in record { below = omega arith; above = omega arith }
 
   ready-first : Ready 0 0
   ready-first = record { below = omega arith; above = omega arith }
 
-  turns-from : (k n t : ℕ) → Ready n t → turns k p (moved_to p q n t) t ≡ turnsAt a c (k + n)
+  turns-from : (k n t : ℕ) → Ready n t → turns k p (moved_to p q n t) t ≡ turns_at a c (k + n)
   unfolding turns
   turns-from zero n t r = rw zero-add (counted_is n t r)
-  turns-from (suc k) n t r = rw (next-is n t r, counted_is n t r) (turns-from k (suc n) (turnsAt a c n) (ready-next n) ∙ ap (turnsAt a c) (omega arith))
+  turns-from (suc k) n t r = rw (next-is n t r, counted_is n t r) (turns-from k (suc n) (turns_at a c n) (ready-next n) ∙ ap (turns_at a c) (omega arith))
 
-  walk_from : (k n t : ℕ) → Ready n t → pointsFrom k p (moved_to p q n t) ≡ valuesFrom (λ n. (moved_to p q n (turnsAt a c n)).point) n k
-  unfolding pointsFrom valuesFrom
+  walk_from : (k n t : ℕ) → Ready n t → points_from k p (moved_to p q n t) ≡ values_from (λ n. (moved_to p q n (turns_at a c n)).point) n k
+  unfolding points_from values_from
   walk_from zero n t r = refl
-  walk_from (suc k) n t r = rw (next-is n t r, walk_from k (suc n) (turnsAt a c n) (ready-next n))
+  walk_from (suc k) n t r = rw (next-is n t r, walk_from k (suc n) (turns_at a c n) (ready-next n))
 
 -- a walk without a move
-one-point : (M m : Point) (c : ℕ) (q : Point) → pointsFrom 1 (along M m (pos 0) (pos c)) (place_of q (pos 0)) ≡ valuesFrom (λ n. (moved_to (along M m (pos 0) (pos c)) q n (turnsAt 0 c n)).point) 0 1
-unfolding pointsFrom valuesFrom next_of handed turned along
+one-point : (M m : Point) (c : ℕ) (q : Point) → points_from 1 (along M m (pos 0) (pos c)) (place_of q (pos 0)) ≡ values_from (λ n. (moved_to (along M m (pos 0) (pos c)) q n (turns_at 0 c n)).point) 0 1
+unfolding points_from values_from next_of handed turned along
 one-point M m c q = rw (idle {a = 0} {n = 0} c (le_refl 0) (le_refl 0), begun (along M m (pos 0) (pos c)) q)
 
 -- ---- the law, for the walk of any parameters that W2 gives, whichever axis is major
@@ -161,10 +161,10 @@ module _ (M m : Point) (a c : ℕ) (q : Point) (less : c ≤ a) where
 
   pub turns-exactly : (n t : ℕ) → 0 < a → (turns n walk (place_of q (pos 0)) 0 ≡ t) ↔ Paced a c n t
   turns-exactly n t some =
-      let is : turns n walk (place_of q (pos 0)) 0 ≡ turnsAt a c (n + 0) = rw (← begun walk q) (turns-from M m a c q some less n 0 0 (ready-first M m a c q some less)) in
+      let is : turns n walk (place_of q (pos 0)) 0 ≡ turns_at a c (n + 0) = rw (← begun walk q) (turns-from M m a c q some less n 0 0 (ready-first M m a c q some less)) in
       (λ e. rw (← e, is, add-zero) (turns-paced some), λ w. is ∙ rw add-zero (paced-turns some w))
 
-  pub walk-points : pointsFrom (suc a) walk (place_of q (pos 0)) ≡ valuesFrom (λ n. (moved_to walk q n (turnsAt a c n)).point) 0 (suc a)
+  pub walk-points : points_from (suc a) walk (place_of q (pos 0)) ≡ values_from (λ n. (moved_to walk q n (turns_at a c n)).point) 0 (suc a)
   walk-points =
       ⊎_elim
       (λ (none : a ≤ 0). let z : a ≡ 0 = omega arith in rw z (one-point M m c q))

@@ -7,7 +7,7 @@ use Rattle.shapes.specs.declared.Line.{Line}
 use Rattle.shapes.specs.Shape.{point_of, delta}
 use Rattle.bresenham.specs.declared.Parameters.{Parameters}
 use Rattle.bresenham.specs.declared.Bresenham.{Bresenham}
-use Rattle.bresenham.specs.Walk.{place_of, directionOf, next_of}
+use Rattle.bresenham.specs.Walk.{place_of, direction_of, next_of}
 
 -- ---- a walk, a and c being the larger and the smaller absolute delta
 
@@ -26,8 +26,8 @@ pub record Paced (a c n t : ℕ) : Type 0 where
   pub above : n * (2 * c) ≤ t * (2 * a) + a
 
 -- which is one quotient: n c / a to the nearest, halves down
-unfoldable pub turnsAt : ℕ → ℕ → ℕ → ℕ
-turnsAt a c n = (n * (2 * c) + (a - 1)) / (2 * a)
+unfoldable pub turns_at : ℕ → ℕ → ℕ → ℕ
+turns_at a c n = (n * (2 * c) + (a - 1)) / (2 * a)
 
 -- a number to which each of n major moves adds M, and each of t minor ones m
 abbrev pub moved : ℤ → ℤ → ℤ → ℕ → ℕ → ℤ
@@ -41,9 +41,9 @@ moved_to p q n t =
     (moved (pos 0) p.gain (neg_ℤ p.loss) n t)
 
 -- k values of f, from the m-th on
-unfoldable pub valuesFrom : (ℕ → Point) → ℕ → ℕ → List Point
-valuesFrom f m zero = []
-valuesFrom f m (suc k) = f m ∷ valuesFrom f (suc m) k
+unfoldable pub values_from : (ℕ → Point) → ℕ → ℕ → List Point
+values_from f m zero = []
+values_from f m (suc k) = f m ∷ values_from f (suc m) k
 
 -- ---- a line
 
@@ -59,22 +59,22 @@ abbrev pub steep : Line → Bool
 steep l = ltb (wide l) (tall l)
 
 -- the place k steps from x, in the direction of d
-unfoldable pub stepsFrom : ℤ → ℤ → ℕ → ℤ
-stepsFrom x d k = x +ℤ pos k *ℤ directionOf d
+unfoldable pub steps_from : ℤ → ℤ → ℕ → ℤ
+steps_from x d k = x +ℤ pos k *ℤ direction_of d
 
 -- the pixel k columns and r rows from the line's start, toward its end
-abbrev pub pixelAt : Line → ℕ → ℕ → Point
-pixelAt l k r = point_of (stepsFrom l.start.x (delta l).x k) (stepsFrom l.start.y (delta l).y r)
+abbrev pub pixel_at : Line → ℕ → ℕ → Point
+pixel_at l k r = point_of (steps_from l.start.x (delta l).x k) (steps_from l.start.y (delta l).y r)
 
 -- how many columns and rows the n-th point is from the start of a line that goes w columns and h rows, y being major or not
-abbrev pub acrossAt : Bool → ℕ → ℕ → ℕ → ℕ
-acrossAt major w h n = cond major (turnsAt h w n) n
+abbrev pub across_at : Bool → ℕ → ℕ → ℕ → ℕ
+across_at major w h n = cond major (turns_at h w n) n
 
-abbrev pub downAt : Bool → ℕ → ℕ → ℕ → ℕ
-downAt major w h n = cond major n (turnsAt w h n)
+abbrev pub down_at : Bool → ℕ → ℕ → ℕ → ℕ
+down_at major w h n = cond major n (turns_at w h n)
 
-unfoldable pub pointAt : Line → ℕ → Point
-pointAt l n = pixelAt l (acrossAt (steep l) (wide l) (tall l) n) (downAt (steep l) (wide l) (tall l) n)
+unfoldable pub point_at : Line → ℕ → Point
+point_at l n = pixel_at l (across_at (steep l) (wide l) (tall l) n) (down_at (steep l) (wide l) (tall l) n)
 
 -- what makes the pixel k columns and r rows from its start a point of such a line
 abbrev pub Passes : Bool → ℕ → ℕ → ℕ → ℕ → Type 0

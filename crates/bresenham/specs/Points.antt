@@ -4,17 +4,17 @@ use Rattle.shapes.specs.declared.Point.{Point}
 use Rattle.shapes.specs.declared.Line.{Line}
 use Rattle.bresenham.specs.declared.Parameters.{Parameters}
 use Rattle.bresenham.specs.declared.Bresenham.{Bresenham}
-use Rattle.bresenham.specs.Walk.{place_of, parametersOf, next_of}
+use Rattle.bresenham.specs.Walk.{place_of, parameters_of, next_of}
 
 -- what n plain steps hand out
-unfoldable pub pointsFrom : ℕ → Parameters → Bresenham → List Point
-pointsFrom zero p b = []
-pointsFrom (suc n) p b = (next_of p b).point ∷ pointsFrom n p (next_of p b).state
+unfoldable pub points_from : ℕ → Parameters → Bresenham → List Point
+points_from zero p b = []
+points_from (suc n) p b = (next_of p b).point ∷ points_from n p (next_of p b).state
 
 -- "a line has a + 1 points", a being the threshold
-unfoldable pub majorLength : Line → ℕ
-majorLength l = suc (nat_abs (parametersOf l).threshold)
+unfoldable pub major_length : Line → ℕ
+major_length l = suc (nat_abs (parameters_of l).threshold)
 
 -- those of a walk that begins at the line's start with error 0
-unfoldable pub linePoints : Line → List Point
-linePoints l = pointsFrom (majorLength l) (parametersOf l) (place_of l.start (pos 0))
+unfoldable pub line_points : Line → List Point
+line_points l = points_from (major_length l) (parameters_of l) (place_of l.start (pos 0))

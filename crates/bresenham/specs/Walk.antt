@@ -16,41 +16,41 @@ place_of p e = record { point = p; error = e }
 
 -- ---- what the steps ask, so that nothing wraps
 
-abbrev pub stepLimit : ℕ
-stepLimit = 2 ^ 28
+abbrev pub step_limit : ℕ
+step_limit = 2 ^ 28
 
 pub record Sized (p : Parameters) : Type 0 where
-  pub major-near : Near stepLimit p.major
-  pub minor-near : Near stepLimit p.minor
-  pub gain-small : Within p.gain stepLimit
-  pub loss-small : Within p.loss stepLimit
-  pub threshold-small : Within p.threshold stepLimit
+  pub major_near : Near step_limit p.major
+  pub minor_near : Near step_limit p.minor
+  pub gain_small : Within p.gain step_limit
+  pub loss_small : Within p.loss step_limit
+  pub threshold_small : Within p.threshold step_limit
 
 pub record Placed (b : Bresenham) : Type 0 where
-  pub point-near : Near stepLimit b.point
-  pub error-small : Within b.error stepLimit
+  pub point_near : Near step_limit b.point
+  pub error_small : Within b.error step_limit
 
 -- ---- W2: the parameters
 
 -- a zero delta counts as direction +1
-unfoldable pub directionOf : ℤ → ℤ
-directionOf d = cond (lt_z d (pos 0)) (negsuc 0) (pos 1)
+unfoldable pub direction_of : ℤ → ℤ
+direction_of d = cond (lt_z d (pos 0)) (negsuc 0) (pos 1)
 
 -- a and b are the larger and the smaller absolute delta: threshold a, error step major 2b, minor 2a
 unfoldable pub along : Point → Point → ℤ → ℤ → Parameters
 along major minor a b = record { major = major; minor = minor; gain = pos 2 *ℤ b; loss = pos 2 *ℤ a; threshold = a }
 
 -- x is major on a tie
-unfoldable pub parametersAlong : Point → Parameters
-parametersAlong d =
+unfoldable pub parameters_along : Point → Parameters
+parameters_along d =
     let width = pos (nat_abs d.x) in
     let height = pos (nat_abs d.y) in
-    let across = point_of (directionOf d.x) (pos 0) in
-    let down = point_of (pos 0) (directionOf d.y) in
+    let across = point_of (direction_of d.x) (pos 0) in
+    let down = point_of (pos 0) (direction_of d.y) in
     cond (lt_z width height) (along down across height width) (along across down width height)
 
-unfoldable pub parametersOf : Line → Parameters
-parametersOf l = parametersAlong (delta l)
+unfoldable pub parameters_of : Line → Parameters
+parameters_of l = parameters_along (delta l)
 
 -- ---- W2: the plain step
 
@@ -68,42 +68,42 @@ next_of p b = handed p (turned p b)
 -- ---- W3: the steps across a line
 
 -- Extra, and then a minor move, where one is due; else Normal, and then a major move
-abbrev pub metAt : Bool → Point → Bresenham → Bresenham → Met
-metAt due p turned gone = cond due (record { point = p; extra = true; state = turned }) (record { point = p; extra = false; state = gone })
+abbrev pub met_at : Bool → Point → Bresenham → Bresenham → Met
+met_at due p turned gone = cond due (record { point = p; extra = true; state = turned }) (record { point = p; extra = false; state = gone })
 
 -- error > a gives Extra, then a minor move and error - 2a; else Normal, then a major move and error + 2b
-unfoldable pub nextAll : Parameters → Bresenham → Met
-nextAll p b =
-    metAt (lt_z p.threshold b.error) b.point (place_of (plus b.point p.minor) (b.error -ℤ p.loss))
+unfoldable pub next_all : Parameters → Bresenham → Met
+next_all p b =
+    met_at (lt_z p.threshold b.error) b.point (place_of (plus b.point p.minor) (b.error -ℤ p.loss))
     (place_of (plus b.point p.major) (b.error +ℤ p.gain))
 
 -- error ≤ -a gives Extra, then a minor move back and error + 2a; else Normal, a major move back and error - 2b
-unfoldable pub previousAll : Parameters → Bresenham → Met
-previousAll p b =
-    metAt (le_z b.error (neg_ℤ p.threshold)) b.point (place_of (minus b.point p.minor) (b.error +ℤ p.loss))
+unfoldable pub previous_all : Parameters → Bresenham → Met
+previous_all p b =
+    met_at (le_z b.error (neg_ℤ p.threshold)) b.point (place_of (minus b.point p.minor) (b.error +ℤ p.loss))
     (place_of (minus b.point p.major) (b.error -ℤ p.gain))
 
 -- ---- W4: the error of a parallel's first point
 
 -- the error after a carry, where one is due
-abbrev pub carriedAt : Bool → ℤ → ℤ → Carried
-carriedAt due settled moved = cond due (record { error = settled; carry = true }) (record { error = moved; carry = false })
+abbrev pub carried_at : Bool → ℤ → ℤ → Carried
+carried_at due settled moved = cond due (record { error = settled; carry = true }) (record { error = moved; carry = false })
 
 -- add 2b; if above a, take off 2a and carry
 unfoldable pub increased : Parameters → ℤ → Carried
-increased p e = carriedAt (lt_z p.threshold (e +ℤ p.gain)) (e +ℤ p.gain -ℤ p.loss) (e +ℤ p.gain)
+increased p e = carried_at (lt_z p.threshold (e +ℤ p.gain)) (e +ℤ p.gain -ℤ p.loss) (e +ℤ p.gain)
 
 -- take off 2b; if ≤ -a, add 2a and carry
 unfoldable pub decreased : Parameters → ℤ → Carried
-decreased p e = carriedAt (le_z (e -ℤ p.gain) (neg_ℤ p.threshold)) (e -ℤ p.gain +ℤ p.loss) (e -ℤ p.gain)
+decreased p e = carried_at (le_z (e -ℤ p.gain) (neg_ℤ p.threshold)) (e -ℤ p.gain +ℤ p.loss) (e -ℤ p.gain)
 
 -- ---- what W2 says of the parameters of any line whose start is not its end: 1 ≤ a ≤ k, 0 ≤ 2b ≤ 2a, and steps of one pixel
 
 pub record Fair (k : ℕ) (p : Parameters) : Type 0 where
   pub some : pos 1 ≤ℤ p.threshold
   pub most : p.threshold ≤ℤ pos k
-  pub loss-is : p.loss ≡ pos 2 *ℤ p.threshold
-  pub gain-low : pos 0 ≤ℤ p.gain
-  pub gain-high : p.gain ≤ℤ p.loss
-  pub major-unit : Near 1 p.major
-  pub minor-unit : Near 1 p.minor
+  pub loss_is : p.loss ≡ pos 2 *ℤ p.threshold
+  pub gain_low : pos 0 ≤ℤ p.gain
+  pub gain_high : p.gain ≤ℤ p.loss
+  pub major_unit : Near 1 p.major
+  pub minor_unit : Near 1 p.minor

@@ -1,10 +1,10 @@
 //! The parameters of a walk and its steps. Each function asks for numbers that are small enough for 64 bits.
 ghost use Rattle.std.specs.Prelude.{◌≡◌};
-ghost use Rattle.shapes.specs.Limits.{lineLimit};
+ghost use Rattle.shapes.specs.Limits.{line_limit};
 ghost use Rattle.shapes.specs.Shape.{Near, LineNear};
 ghost use Rattle.whole.specs.Number.{Within};
-ghost use Rattle.bresenham.specs.Walk.{stepLimit, Sized, Placed, along, parametersAlong, parametersOf};
-ghost use Rattle.bresenham.specs.Walk.{directionOf, turned, next_of, metAt, nextAll, previousAll, carriedAt, increased, decreased};
+ghost use Rattle.bresenham.specs.Walk.{step_limit, Sized, Placed, along, parameters_along, parameters_of};
+ghost use Rattle.bresenham.specs.Walk.{direction_of, turned, next_of, met_at, next_all, previous_all, carried_at, increased, decreased};
 
 use crate::{Bresenham, Carried, Drawn, Met, Parameters};
 use shapes::inner::{delta, minus, plus};
@@ -13,15 +13,15 @@ use whole::inner::magnitude;
 
 /// The direction of a delta: -1 where it is negative, else 1.
 pub fn direction(d: i64) -> i64
-    ensures { result ≡ directionOf d }
+    ensures { result ≡ direction_of d }
 {
     if d < 0 { -1 } else { 1 }
 }
 
 /// The parameters of a walk whose larger and smaller absolute deltas are `a` and `b`.
 pub fn walk_along(major: Point, minor: Point, a: i64, b: i64) -> Parameters
-    requires within { Within a stepLimit }
-    requires within_2 { Within b stepLimit }
+    requires within { Within a step_limit }
+    requires within_2 { Within b step_limit }
     ensures { result ≡ along major minor a b }
 {
     Parameters {
@@ -35,8 +35,8 @@ pub fn walk_along(major: Point, minor: Point, a: i64, b: i64) -> Parameters
 
 /// The parameters of a walk along a delta.
 pub fn parameters_along(d: Point) -> Parameters
-    requires { Near stepLimit d }
-    ensures { result ≡ parametersAlong d }
+    requires { Near step_limit d }
+    ensures { result ≡ parameters_along d }
 {
     let across = Point {
         x: direction(d.x),
@@ -56,8 +56,8 @@ pub fn parameters_along(d: Point) -> Parameters
 
 /// The parameters of the walk along a line.
 pub fn parameters(line: Line) -> Parameters
-    requires { LineNear lineLimit line }
-    ensures { result ≡ parametersOf line }
+    requires { LineNear line_limit line }
+    ensures { result ≡ parameters_of line }
 {
     parameters_along(delta(line))
 }
@@ -98,7 +98,7 @@ fn turn(p: Parameters, at: Bresenham) -> Bresenham
 pub fn next_all(p: Parameters, at: Bresenham) -> Met
     requires sized { Sized p }
     requires placed { Placed at }
-    ensures { result ≡ nextAll p at }
+    ensures { result ≡ next_all p at }
 {
     let point = at.point;
     let error = at.error;
@@ -117,7 +117,7 @@ pub fn next_all(p: Parameters, at: Bresenham) -> Met
 pub fn previous_all(p: Parameters, at: Bresenham) -> Met
     requires sized { Sized p }
     requires placed { Placed at }
-    ensures { result ≡ previousAll p at }
+    ensures { result ≡ previous_all p at }
 {
     let point = at.point;
     let error = at.error;
@@ -134,7 +134,7 @@ pub fn previous_all(p: Parameters, at: Bresenham) -> Met
 
 /// A point across a line: Extra, with the place after a minor move, where one is due; else Normal, with that after a major move.
 fn met(due: bool, point: Point, turned: Bresenham, gone: Bresenham) -> Met
-    ensures { result ≡ metAt due point turned gone }
+    ensures { result ≡ met_at due point turned gone }
 {
     if due {
         return Met {
@@ -153,7 +153,7 @@ fn met(due: bool, point: Point, turned: Bresenham, gone: Bresenham) -> Met
 /// The error of a parallel's first point, one extra step further; it carries where a minor step becomes due.
 pub fn increase_error(p: Parameters, error: i64) -> Carried
     requires sized { Sized p }
-    requires within { Within error stepLimit }
+    requires within { Within error step_limit }
     ensures { result ≡ increased p error }
 {
     let moved = error + p.gain;
@@ -163,7 +163,7 @@ pub fn increase_error(p: Parameters, error: i64) -> Carried
 /// The same, one extra step back.
 pub fn decrease_error(p: Parameters, error: i64) -> Carried
     requires sized { Sized p }
-    requires within { Within error stepLimit }
+    requires within { Within error step_limit }
     ensures { result ≡ decreased p error }
 {
     let moved = error - p.gain;
@@ -172,7 +172,7 @@ pub fn decrease_error(p: Parameters, error: i64) -> Carried
 
 /// The settled error, and that it carried, where a carry is due; else the moved error.
 fn carried(due: bool, settled: i64, moved: i64) -> Carried
-    ensures { result ≡ carriedAt due settled moved }
+    ensures { result ≡ carried_at due settled moved }
 {
     if due {
         return Carried {

@@ -13,27 +13,27 @@ use Rattle.shapes.specs.declared.Offset.{Offset}
 use Rattle.shapes.specs.declared.Offset.TheVariants.{None}
 use Rattle.line_join.specs.Words.{BendTold}
 use Rattle.thick_segment.specs.Segments.{SegmentNear}
-use Rattle.thick_segment.specs.Words.{joinsIn}
-use Rattle.coordinates.specs.Points.{pointCount, placeAfter}
-use Rattle.coordinates.specs.Refusal.{routeRefusal, Accepted}
+use Rattle.thick_segment.specs.Words.{joins_in}
+use Rattle.coordinates.specs.Points.{point_count, place_after}
+use Rattle.coordinates.specs.Refusal.{route_refusal, Accepted}
 use Rattle.coordinates.proofs.Laws.{accepted-exactly}
-use Rattle.route_joins.specs.Joins.{endPlace, closedSegment, closedCount}
+use Rattle.route_joins.specs.Joins.{end_place, closed_segment, closed_count}
 use Rattle.route_joins.specs.Steps.{StepTold, SegmentBySegment}
 use Rattle.route_joins.proofs.Walks.{place_kept, route-told, route-in-turn, route-five, route-other, route-step-bend, route-step-positions, route-refused-none, refusal-told}
 use Rattle.closed_thick_segment_iter.specs.declared.Walk.{Walk}
 use Rattle.closed_thick_segment_iter.specs.declared.Started.{Started}
-use Rattle.closed_thick_segment_iter.specs.Walks.{closedStart, closed_step, afterClosed}
+use Rattle.closed_thick_segment_iter.specs.Walks.{closed_start, closed_step, after_closed}
 
 module _ (limits : Limits) (cs : List ℤ) (w : ℤ) (o : Offset) (accepted : Accepted limits.point true cs w) where
   abbrev at : ℕ → Walk
   at p = record { place = p; width = w; offset = o }
 
-  begun : (closedStart limits.point cs w o).walk ≡ at 0
-  unfolding closedStart
-  begun = rw (eq-eqb (routeRefusal limits.point true cs w) 0 ((accepted-exactly limits.point true cs w).1 accepted))
+  begun : (closed_start limits.point cs w o).walk ≡ at 0
+  unfolding closed_start
+  begun = rw (eq-eqb (route_refusal limits.point true cs w) 0 ((accepted-exactly limits.point true cs w).1 accepted))
 
-  pub segment-by-segment : SegmentBySegment limits.corner (closed_step limits cs) (afterClosed limits cs) (closedStart limits.point cs w o).walk (closedCount cs) (closedSegment cs w o)
-  unfolding closed_step afterClosed
+  pub segment-by-segment : SegmentBySegment limits.corner (closed_step limits cs) (after_closed limits cs) (closed_start limits.point cs w o).walk (closed_count cs) (closed_segment cs w o)
+  unfolding closed_step after_closed
   segment-by-segment = route-in-turn limits true cs w o at accepted (λ p. refl) (λ p. refl) begun
 
 -- ---- refusals of a step: 5 exactly when the list and the width are not refused, and a join of the segment at its place has a corner beyond
@@ -41,33 +41,33 @@ module _ (limits : Limits) (cs : List ℤ) (w : ℤ) (o : Offset) (accepted : Ac
 
 module _ (limits : Limits) (cs : List ℤ) (walk : Walk) where
   pub step-five : ((closed_step limits cs walk).refusal ≡ 5)
-      ↔ ((routeRefusal limits.point true cs walk.width ≡ 0) × ((walk.place < closedCount cs) × (SegmentNear limits.corner (closedSegment cs walk.width walk.offset walk.place) → ⊥)))
+      ↔ ((route_refusal limits.point true cs walk.width ≡ 0) × ((walk.place < closed_count cs) × (SegmentNear limits.corner (closed_segment cs walk.width walk.offset walk.place) → ⊥)))
   unfolding closed_step
   step-five = route-five limits true cs walk.width walk.offset walk.place
 
-  pub step_other : {n : ℕ} → 0 < n → (n ≡ 5 → ⊥) → ((closed_step limits cs walk).refusal ≡ n) ↔ (routeRefusal limits.point true cs walk.width ≡ n)
+  pub step_other : {n : ℕ} → 0 < n → (n ≡ 5 → ⊥) → ((closed_step limits cs walk).refusal ≡ n) ↔ (route_refusal limits.point true cs walk.width ≡ n)
   unfolding closed_step
   step_other = route-other limits true cs walk.width walk.offset walk.place
 
   -- with 5 comes the position of the first join of the segment that has such a corner
   pub step-bend : let v = closed_step limits cs walk in
-      BendTold ((routeRefusal limits.point true cs walk.width ≡ 0) × (walk.place < closedCount cs)) limits.corner (joinsIn (closedSegment cs walk.width walk.offset walk.place)) 2 v.refusal v.bend
+      BendTold ((route_refusal limits.point true cs walk.width ≡ 0) × (walk.place < closed_count cs)) limits.corner (joins_in (closed_segment cs walk.width walk.offset walk.place)) 2 v.refusal v.bend
   unfolding closed_step
   step-bend = route-step-bend limits true cs walk.width walk.offset walk.place
 
   -- the joins that a step hands out have the segment's place and the next one for their positions; of the closing segment that is 0
-  pub step-positions : let v = closed_step limits cs walk in v.found ≡ 1 → (v.start.position ≡ walk.place) × (v.end.position ≡ placeAfter (pointCount cs) walk.place)
-  unfolding closed_step endPlace
+  pub step-positions : let v = closed_step limits cs walk in v.found ≡ 1 → (v.start.position ≡ walk.place) × (v.end.position ≡ place_after (point_count cs) walk.place)
+  unfolding closed_step end_place
   step-positions = route-step-positions limits true cs walk.width walk.offset walk.place
 
   -- what a step answers, wherever the walk stands and whatever list is handed to it
-  pub step-told : StepTold limits.corner (routeRefusal limits.point true cs walk.width) (closedCount cs) (closedSegment cs walk.width walk.offset) walk.place (closed_step limits cs walk)
+  pub step-told : StepTold limits.corner (route_refusal limits.point true cs walk.width) (closed_count cs) (closed_segment cs walk.width walk.offset) walk.place (closed_step limits cs walk)
   unfolding closed_step
   step-told = route-told limits true cs walk.width walk.offset walk.place
 
   -- where no segment is answered, refused or at the end, the walk is as it was
-  pub step_kept : (closed_step limits cs walk).found ≢ 1 → afterClosed limits cs walk ≡ walk
-  unfolding afterClosed
+  pub step_kept : (closed_step limits cs walk).found ≢ 1 → after_closed limits cs walk ≡ walk
+  unfolding after_closed
   step_kept other = rw (place_kept (closed_step limits cs walk) walk.place other)
 
   -- so a refused step, asked again, answers the same: with 5 the same bend
@@ -75,18 +75,18 @@ module _ (limits : Limits) (cs : List ℤ) (walk : Walk) where
   unfolding closed_step
   none-drawn = route-refused-none limits true cs walk.width walk.offset walk.place
 
-  pub step-again : (closed_step limits cs walk).refusal ≢ 0 → closed_step limits cs (afterClosed limits cs walk) ≡ closed_step limits cs walk
+  pub step-again : (closed_step limits cs walk).refusal ≢ 0 → closed_step limits cs (after_closed limits cs walk) ≡ closed_step limits cs walk
   step-again some = ap (closed_step limits cs) (step_kept (none-drawn some))
 
 -- ---- a start is refused as the list and the width are; refused, its walk is all 0
 
 module _ (k : ℕ) (cs : List ℤ) (w : ℤ) (o : Offset) where
-  pub start-refusal : (closedStart k cs w o).refusal ≡ routeRefusal k true cs w
-  unfolding closedStart
-  start-refusal = refusal-told {A = Started} (λ s. s.refusal) (routeRefusal k true cs w) refl refl
+  pub start-refusal : (closed_start k cs w o).refusal ≡ route_refusal k true cs w
+  unfolding closed_start
+  start-refusal = refusal-told {A = Started} (λ s. s.refusal) (route_refusal k true cs w) refl refl
 
-  pub start-chosen : Chosen (routeRefusal k true cs w ≡ 0) (closedStart k cs w o)
+  pub start-chosen : Chosen (route_refusal k true cs w ≡ 0) (closed_start k cs w o)
       (record { refusal = 0; walk = record { place = 0; width = w; offset = o } })
-      (record { refusal = routeRefusal k true cs w; walk = record { place = 0; width = pos 0; offset = None } })
-  unfolding closedStart
-  start-chosen = chosen (eqb (routeRefusal k true cs w) 0) _ _ (eqb-iff (routeRefusal k true cs w) 0)
+      (record { refusal = route_refusal k true cs w; walk = record { place = 0; width = pos 0; offset = None } })
+  unfolding closed_start
+  start-chosen = chosen (eqb (route_refusal k true cs w) 0) _ _ (eqb-iff (route_refusal k true cs w) 0)

@@ -6,7 +6,7 @@ use Rattle.shapes.specs.declared.Offset.{Offset}
 use Rattle.line_join.specs.declared.Join.{Join}
 use Rattle.line_join.specs.Join.{start_of, join_of}
 use Rattle.thick_segment.specs.declared.Segment.{Segment}
-use Rattle.coordinates.specs.Points.{lastTwo}
+use Rattle.coordinates.specs.Points.{last_two}
 
 abbrev pub between : Join → Join → Segment
 between a b = record { start = a; end = b }
@@ -33,15 +33,15 @@ pub record Turn : Type 0 where
   pub windows : List Point
   pub stop : Bool
 
-abbrev pub pastWindows : ℤ → Offset → Known → ℕ → List Point → Turn
-pastWindows w o known idx ps =
+abbrev pub past_windows : ℤ → Offset → Known → ℕ → List Point → Turn
+past_windows w o known idx ps =
     cond (eqb idx known.count) (record { end = join_of known.before known.last known.first w o; windows = ps; stop = false })
     (record { end = known.join; windows = ps; stop = true })
 
 abbrev pub turned : ℤ → Offset → Known → ℕ → List Point → Turn
-turned w o known idx [] = pastWindows w o known idx []
-turned w o known idx (a ∷ []) = pastWindows w o known idx (a ∷ [])
-turned w o known idx (a ∷ b ∷ []) = pastWindows w o known idx (a ∷ b ∷ [])
+turned w o known idx [] = past_windows w o known idx []
+turned w o known idx (a ∷ []) = past_windows w o known idx (a ∷ [])
+turned w o known idx (a ∷ b ∷ []) = past_windows w o known idx (a ∷ b ∷ [])
 turned w o known idx (a ∷ b ∷ c ∷ ps) = record { end = join_of a b c w o; windows = b ∷ c ∷ ps; stop = false }
 
 -- what `calls` of `next` answer: none once it has stopped
@@ -52,14 +52,14 @@ answered w o known it (suc calls) =
     cond it.stop [] (between it.start t.end ∷ answered w o known (record { windows = t.windows; start = t.end; idx = suc it.idx; stop = t.stop }) calls)
 
 -- what they answer from `new` on; of one point the Rust stops at an index
-unfoldable pub closedSegments : ℤ → Offset → List Point → ℕ → List Segment
-closedSegments w o [] calls = []
-closedSegments w o (a ∷ []) calls = []
-closedSegments w o (a ∷ b ∷ []) calls =
+unfoldable pub closed_segments : ℤ → Offset → List Point → ℕ → List Segment
+closed_segments w o [] calls = []
+closed_segments w o (a ∷ []) calls = []
+closed_segments w o (a ∷ b ∷ []) calls =
     let join = start_of a b w o in
     answered w o (record { count = 2; first = a; before = a; last = b; join = join }) (record { windows = []; start = join; idx = 1; stop = false }) calls
-closedSegments w o (a ∷ b ∷ c ∷ ps) calls =
-    lastTwo
+closed_segments w o (a ∷ b ∷ c ∷ ps) calls =
+    last_two
     (λ y z.
     let join = join_of z a b w o in
     answered w o (record { count = length (a ∷ b ∷ c ∷ ps); first = a; before = y; last = z; join = join }) (record { windows = a ∷ b ∷ c ∷ ps; start = join; idx = 1; stop = false }) calls)

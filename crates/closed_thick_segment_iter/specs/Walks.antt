@@ -3,19 +3,19 @@ use Rattle.std.specs.Prelude.{true, cond, List, ℕ, eqb, ℤ, pos}
 use Rattle.shapes.specs.declared.limits.Limits.{Limits}
 use Rattle.shapes.specs.declared.Offset.{Offset}
 use Rattle.shapes.specs.declared.Offset.TheVariants.{None}
-use Rattle.coordinates.specs.Refusal.{routeRefusal}
-use Rattle.route_joins.specs.Steps.{StepValues, routeStep, placeFrom}
+use Rattle.coordinates.specs.Refusal.{route_refusal}
+use Rattle.route_joins.specs.Steps.{StepValues, route_step, place_from}
 use Rattle.closed_thick_segment_iter.specs.declared.Walk.{Walk}
 use Rattle.closed_thick_segment_iter.specs.declared.Started.{Started}
 
 -- the list's and the width's refusal, k being the points' limit, with 0 for the rest; else a walk at the first segment
-unfoldable pub closedStart : ℕ → List ℤ → ℤ → Offset → Started
-closedStart k cs w o =
-    let n = routeRefusal k true cs w in
+unfoldable pub closed_start : ℕ → List ℤ → ℤ → Offset → Started
+closed_start k cs w o =
+    let n = route_refusal k true cs w in
     cond (eqb n 0) (record { refusal = 0; walk = record { place = 0; width = w; offset = o } }) (record { refusal = n; walk = record { place = 0; width = pos 0; offset = None } })
 
 unfoldable pub closed_step : Limits → List ℤ → Walk → StepValues
-closed_step limits cs walk = routeStep limits true cs walk.width walk.offset walk.place
+closed_step limits cs walk = route_step limits true cs walk.width walk.offset walk.place
 
-unfoldable pub afterClosed : Limits → List ℤ → Walk → Walk
-afterClosed limits cs walk = record { place = placeFrom (closed_step limits cs walk) walk.place; width = walk.width; offset = walk.offset }
+unfoldable pub after_closed : Limits → List ℤ → Walk → Walk
+after_closed limits cs walk = record { place = place_from (closed_step limits cs walk) walk.place; width = walk.width; offset = walk.offset }

@@ -1,9 +1,9 @@
 //! The walk over the segments of a closed route, with one of the three offsets: `closed_thick_segment_iter.rs`. The list of
 //! coordinates is handed to each step.
 ghost use Rattle.std.specs.Prelude.{◌≡◌};
-ghost use Rattle.route_joins.specs.Steps.{stepValues};
-ghost use Rattle.shapes.specs.Limits.{pointLimit, panel as panelLimits};
-ghost use Rattle.closed_thick_segment_iter.specs.Walks.{closedStart, closed_step, afterClosed};
+ghost use Rattle.route_joins.specs.Steps.{step_values};
+ghost use Rattle.shapes.specs.Limits.{point_limit, panel as panel_limits};
+ghost use Rattle.closed_thick_segment_iter.specs.Walks.{closed_start, closed_step, after_closed};
 
 use coordinates::refusal;
 use route_joins::Step;
@@ -38,7 +38,7 @@ pub struct Stepped {
 /// points or one alone, 3 for a width outside 0 to 64, 4 for a coordinate outside 511, 12 for two consecutive points that are
 /// equal, or the last and the first. A route of 0 points has no segments, one of two points has two.
 pub fn start(coordinates: &[i64], width: i64, offset: Offset) -> Started
-    ensures { result ≡ closedStart pointLimit coordinates.now width offset }
+    ensures { result ≡ closed_start point_limit coordinates.now width offset }
 {
     let number = refusal(coordinates, width, true);
     if number == 0 {
@@ -63,8 +63,8 @@ pub fn start(coordinates: &[i64], width: i64, offset: Offset) -> Started
 /// The segment at the walk's place, or the end past the last one. Refused as `start`, and with 5 if a join of the segment has a
 /// corner beyond 4,095, at the position of the first that has: the walk then stays where it is.
 pub fn step(coordinates: &[i64], walk: Walk) -> Stepped
-    ensures answers { stepValues result.step ≡ closed_step panelLimits coordinates.now walk }
-    ensures moves { result.walk ≡ afterClosed panelLimits coordinates.now walk }
+    ensures answers { step_values result.step ≡ closed_step panel_limits coordinates.now walk }
+    ensures moves { result.walk ≡ after_closed panel_limits coordinates.now walk }
 {
     let place = walk.place;
     let width = walk.width;

@@ -1,8 +1,8 @@
 //! Points of a list by their place, and what a list is refused with, for any limit of its coordinates.
 ghost use Rattle.std.specs.Prelude.{◌≡◌, ◌<◌};
-ghost use Rattle.coordinates.specs.Points.{pointAt, pointCount, placeAfter, placeBefore, segmentsOf};
-ghost use Rattle.coordinates.specs.Neighbours.{isDoubled};
-ghost use Rattle.coordinates.specs.Refusal.{areWithin, isMiscounted, routeRefusal};
+ghost use Rattle.coordinates.specs.Points.{point_at, point_count, place_after, place_before, segments_of};
+ghost use Rattle.coordinates.specs.Neighbours.{is_doubled};
+ghost use Rattle.coordinates.specs.Refusal.{are_within, is_miscounted, route_refusal};
 
 use crate::point_count;
 use shapes::Point;
@@ -14,8 +14,8 @@ use whole::inner::within;
 
 /// The point at place `i`.
 pub fn point_at(coordinates: &[i64], i: usize) -> Point
-    requires { i < pointCount coordinates.now }
-    ensures { result ≡ pointAt coordinates.now i }
+    requires { i < point_count coordinates.now }
+    ensures { result ≡ point_at coordinates.now i }
 {
     Point {
         x: coordinates[2 * i],
@@ -26,7 +26,7 @@ pub fn point_at(coordinates: &[i64], i: usize) -> Point
 /// The place after `i` of `count`, round the route.
 pub fn place_after(count: usize, i: usize) -> usize
     requires { i < count }
-    ensures { result ≡ placeAfter count i }
+    ensures { result ≡ place_after count i }
 {
     if i + 1 == count {
         return 0;
@@ -37,7 +37,7 @@ pub fn place_after(count: usize, i: usize) -> usize
 /// The place before `i` of `count`, round the route.
 pub fn place_before(count: usize, i: usize) -> usize
     requires { i < count }
-    ensures { result ≡ placeBefore count i }
+    ensures { result ≡ place_before count i }
 {
     if i == 0 {
         return count - 1;
@@ -47,7 +47,7 @@ pub fn place_before(count: usize, i: usize) -> usize
 
 /// How many segments `count` points, or joins, bound.
 pub fn segments_of(count: usize, closed: bool) -> usize
-    ensures { result ≡ segmentsOf closed count }
+    ensures { result ≡ segments_of closed count }
 {
     if closed {
         return count;
@@ -61,7 +61,7 @@ pub fn segments_of(count: usize, closed: bool) -> usize
 /// What the list and the width of a route are refused with, or 0, for coordinates from `-limit` to `limit`: 1 to 4 and then 12,
 /// in this order.
 pub fn refusal(coordinates: &[i64], width: i64, closed: bool, limit: u32) -> u64
-    ensures { result ≡ routeRefusal limit closed coordinates.now width }
+    ensures { result ≡ route_refusal limit closed coordinates.now width }
 {
     let count = point_count(coordinates);
     if 2 * count < coordinates.len() {
@@ -79,7 +79,7 @@ pub fn refusal(coordinates: &[i64], width: i64, closed: bool, limit: u32) -> u64
 
 /// Whether there are more than 256 points, or one of a closed route.
 fn is_miscounted(count: usize, closed: bool) -> bool
-    ensures { result ≡ isMiscounted closed count }
+    ensures { result ≡ is_miscounted closed count }
 {
     if ROUTE_POINTS < count {
         return true;
@@ -89,7 +89,7 @@ fn is_miscounted(count: usize, closed: bool) -> bool
 
 /// Whether every number of a list is from `-limit` to `limit`.
 fn are_within(coordinates: &[i64], limit: u32) -> bool
-    ensures { result ≡ areWithin limit coordinates.now }
+    ensures { result ≡ are_within limit coordinates.now }
 {
     let mut i: usize = 0;
     while i < coordinates.len() {
@@ -104,7 +104,7 @@ fn are_within(coordinates: &[i64], limit: u32) -> bool
 
 /// Whether two consecutive points of a route are equal; of a closed one the first follows the last.
 fn is_doubled(coordinates: &[i64], closed: bool) -> bool
-    ensures { result ≡ isDoubled closed coordinates.now }
+    ensures { result ≡ is_doubled closed coordinates.now }
 {
     let count = point_count(coordinates);
     let segments = segments_of(count, closed);

@@ -6,46 +6,46 @@ use Rattle.shapes.specs.declared.Point.{Point}
 use Rattle.shapes.specs.declared.Line.{Line}
 use Rattle.shapes.specs.declared.Side.TheVariants.{Left, Right}
 use Rattle.shapes.specs.declared.Divisions.{Divisions}
-use Rattle.shapes.specs.Limits.{pointLimit, crossingLimit, cornerLimit, panel}
+use Rattle.shapes.specs.Limits.{point_limit, crossing_limit, corner_limit, panel}
 use Rattle.shapes.specs.Shape.{LineNear, point_of, line_of, delta}
 use Rattle.linear_equation.specs.Equation.{side_answer}
 use Rattle.intersection_params.specs.declared.Crossed.{Crossed}
 use Rattle.intersection_params.specs.declared.Crossed.TheVariants.{At, Colinear}
-use Rattle.intersection_params.specs.Crossing.{crossingValues, crossingAnswer, nearlyAnswer}
+use Rattle.intersection_params.specs.Crossing.{crossing_values, crossing_answer, nearly_answer}
 use Rattle.shapes.specs.declared.Offset.{Offset}
 use Rattle.shapes.specs.declared.Offset.TheVariants.{None}
 use Rattle.parallels.specs.declared.Parallel.{Parallel}
-use Rattle.parallels.specs.Parallels.{parallelsOf}
+use Rattle.parallels.specs.Parallels.{parallels_of}
 use Rattle.extents.specs.declared.Edges.{Edges}
-use Rattle.extents.specs.Entry.{accepted, extentsAnswer}
+use Rattle.extents.specs.Entry.{accepted, extents_answer}
 use Rattle.line_join.specs.declared.Caps.{Caps}
 use Rattle.line_join.specs.declared.Corners.{Corners}
 use Rattle.line_join.specs.declared.Join.{Join}
 use Rattle.line_join.specs.declared.Joined.TheVariants.{Made}
 use Rattle.line_join.specs.declared.Kind.TheVariants.{Miter}
 use Rattle.line_join.specs.declared.Origin.TheVariants.{Crossing}
-use Rattle.line_join.specs.Origins.{originsOf}
-use Rattle.line_join.specs.Answers.{joinValues, capsValues, pointsAnswer, startCapsAnswer, endCapsAnswer}
+use Rattle.line_join.specs.Origins.{origins_of}
+use Rattle.line_join.specs.Answers.{join_values, caps_values, points_answer, start_caps_answer, end_caps_answer}
 use Rattle.thick_segment.specs.declared.Segment.{Segment}
 use Rattle.thick_segment.specs.declared.Rectangle.{Rectangle}
 use Rattle.thick_segment.specs.declared.Rows.{Rows}
-use Rattle.thick_segment.specs.Answers.{skeletonAnswer, boxAnswer, drawnRowsAnswer}
-use Rattle.coordinates.specs.Refusal.{routeRefusal}
+use Rattle.thick_segment.specs.Answers.{skeleton_answer, box_answer, drawn_rows_answer}
+use Rattle.coordinates.specs.Refusal.{route_refusal}
 use Rattle.route_joins.specs.declared.Step.TheVariants.{Drawn, End}
-use Rattle.route_joins.specs.Steps.{stepValues}
+use Rattle.route_joins.specs.Steps.{step_values}
 use Rattle.closed_thick_segment_iter.specs.declared.Walk.{Walk}
-use Rattle.closed_thick_segment_iter.specs.Walks.{closedStart, closed_step, afterClosed}
+use Rattle.closed_thick_segment_iter.specs.Walks.{closed_start, closed_step, after_closed}
 use Rattle.board.specs.declared.Run.{Run}
 use Rattle.board.specs.declared.Board.{Board}
 use Rattle.board.specs.Runs.{run_of, flat}
-use Rattle.board.specs.Boards.{listed, listedTo}
-use Rattle.board_laws.specs.Histories.{Event, offers, boardAfter}
+use Rattle.board.specs.Boards.{listed, listed_to}
+use Rattle.board_laws.specs.Histories.{Event, offers, board_after}
 
 pub data Case : Type 0 where
   -- two lines and their crossing
   crossing : Line → Line → Crossed → Case
   -- a line, and its crossing with any line inside the limit, as the first of the two and as the second
-  crossingWithAny : Line → Crossed → Case
+  crossing_with_any : Line → Crossed → Case
   -- two deltas, and whether lines that have them run nearly the same way
   nearly : Point → Point → Bool → Case
   -- three points, a width and an offset, and the join at the second point
@@ -61,44 +61,44 @@ pub data Case : Type 0 where
   -- a segment, the box of its edges, and the rows of its drawn lines
   rowed : Segment → Rectangle → Rows → Case
   -- a segment that is refused with 5, and the position that comes with it
-  tooFar : Segment → ℕ → Case
+  too_far : Segment → ℕ → Case
   -- the coordinates of a closed route and a width, and its segments
   closed : List ℤ → ℤ → List Segment → Case
   -- whether a route is closed, its coordinates and a width, and what these are refused with
   refused : Bool → List ℤ → ℤ → ℕ → Case
 
 -- offers to row 0, one after the other
-abbrev pub offersOf : List Run → List Event
-offersOf [] = []
-offersOf (r ∷ rs) = offers (record { row = pos 0; start = r.start; end = r.end }) ∷ offersOf rs
+abbrev pub offers_of : List Run → List Event
+offers_of [] = []
+offers_of (r ∷ rs) = offers (record { row = pos 0; start = r.start; end = r.end }) ∷ offers_of rs
 
 -- row 0's board after them
-abbrev pub boardOfRow0 : List Run → Board
-boardOfRow0 rs = boardAfter cornerLimit (pos 0) (offersOf rs)
+abbrev pub board_of_row0 : List Run → Board
+board_of_row0 rs = board_after corner_limit (pos 0) (offers_of rs)
 
 -- a closed walk's steps answer these segments in turn, and then the end
 unfoldable pub Walks : List ℤ → Walk → List Segment → Type 0
-Walks cs walk [] = closed_step panel cs walk ≡ stepValues End
-Walks cs walk (s ∷ ss) = (closed_step panel cs walk ≡ stepValues (Drawn s)) × Walks cs (afterClosed panel cs walk) ss
+Walks cs walk [] = closed_step panel cs walk ≡ step_values End
+Walks cs walk (s ∷ ss) = (closed_step panel cs walk ≡ step_values (Drawn s)) × Walks cs (after_closed panel cs walk) ss
 
 unfoldable pub Holds : Case → Type 0
-Holds (crossing a b r) = crossingAnswer crossingLimit a b ≡ crossingValues r
-Holds (crossingWithAny a r) =
-    (b : Line) → LineNear crossingLimit b → (crossingAnswer crossingLimit a b ≡ crossingValues r) × (crossingAnswer crossingLimit b a ≡ crossingValues r)
+Holds (crossing a b r) = crossing_answer crossing_limit a b ≡ crossing_values r
+Holds (crossing_with_any a r) =
+    (b : Line) → LineNear crossing_limit b → (crossing_answer crossing_limit a b ≡ crossing_values r) × (crossing_answer crossing_limit b a ≡ crossing_values r)
 Holds (nearly p q t) =
-    (a b : Line) → LineNear crossingLimit a → LineNear crossingLimit b → delta a ≡ p → delta b ≡ q → nearlyAnswer crossingLimit a b ≡ record { refusal = 0; holds = t }
-Holds (joins a b c w o j) = pointsAnswer panel a b c w o ≡ joinValues (Made j)
+    (a b : Line) → LineNear crossing_limit a → LineNear crossing_limit b → delta a ≡ p → delta b ≡ q → nearly_answer crossing_limit a b ≡ record { refusal = 0; holds = t }
+Holds (joins a b c w o j) = points_answer panel a b c w o ≡ join_values (Made j)
 Holds (board rs listing n) =
-    (listed cornerLimit (boardOfRow0 rs) (2 * length listing) ≡ record { refusal = 0; count = length listing; total = n }) × (listedTo cornerLimit (boardOfRow0 rs) (replicate (2 * length listing) (pos 0)) ≡ flat listing)
+    (listed corner_limit (board_of_row0 rs) (2 * length listing) ≡ record { refusal = 0; count = length listing; total = n }) × (listed_to corner_limit (board_of_row0 rs) (replicate (2 * length listing) (pos 0)) ≡ flat listing)
 Holds (sides l p left right) =
-    (side_answer crossingLimit l p Left ≡ record { refusal = 0; holds = left }) × (side_answer crossingLimit l p Right ≡ record { refusal = 0; holds = right })
-Holds (stroked l w o ps e) = (parallelsOf l w o ≡ ps) × (extentsAnswer pointLimit l w o ≡ accepted e)
-Holds (capped j starting ending) = (startCapsAnswer cornerLimit j ≡ capsValues starting) × (endCapsAnswer cornerLimit j ≡ capsValues ending)
+    (side_answer crossing_limit l p Left ≡ record { refusal = 0; holds = left }) × (side_answer crossing_limit l p Right ≡ record { refusal = 0; holds = right })
+Holds (stroked l w o ps e) = (parallels_of l w o ≡ ps) × (extents_answer point_limit l w o ≡ accepted e)
+Holds (capped j starting ending) = (start_caps_answer corner_limit j ≡ caps_values starting) × (end_caps_answer corner_limit j ≡ caps_values ending)
 Holds (rowed s box rows) =
-    (boxAnswer cornerLimit s ≡ record { refusal = 0; bend = 0; rectangle = box }) × (drawnRowsAnswer cornerLimit s ≡ record { refusal = 0; bend = 0; rows = rows })
-Holds (tooFar s p) = skeletonAnswer cornerLimit s ≡ record { refusal = 5; bend = p; skeleton = false }
-Holds (closed cs w ss) = ((closedStart pointLimit cs w None).refusal ≡ 0) × Walks cs (closedStart pointLimit cs w None).walk ss
-Holds (refused isClosed cs w n) = routeRefusal pointLimit isClosed cs w ≡ n
+    (box_answer corner_limit s ≡ record { refusal = 0; bend = 0; rectangle = box }) × (drawn_rows_answer corner_limit s ≡ record { refusal = 0; bend = 0; rows = rows })
+Holds (too_far s p) = skeleton_answer corner_limit s ≡ record { refusal = 5; bend = p; skeleton = false }
+Holds (closed cs w ss) = ((closed_start point_limit cs w None).refusal ≡ 0) × Walks cs (closed_start point_limit cs w None).walk ss
+Holds (refused is_closed cs w n) = route_refusal point_limit is_closed cs w ≡ n
 
 -- each case of a list holds
 unfoldable pub Every : List Case → Type 0
@@ -118,10 +118,10 @@ abbrev run : ℕ → ℕ → Run
 run s e = run_of (pos s) (pos e)
 
 -- (0,0), (216,0), (216,216) at width 3: a miter with its corners at (217,-1) and (215,1), where the edges do cross
-unfoldable pub legsOf216 : Case
-legsOf216 =
+unfoldable pub legs_of216 : Case
+legs_of216 =
     let tip : Corners = record { left = point_of (pos 217) (negsuc 0); right = point_of (pos 215) (pos 1) } in
-    joins (point_of (pos 0) (pos 0)) (point_of (pos 216) (pos 0)) (point_of (pos 216) (pos 216)) (pos 3) None (record { kind = Miter; ending = tip; starting = tip; origins = originsOf (Crossing (divided Exact Exact)) (Crossing (divided Exact Exact)); position = 1 })
+    joins (point_of (pos 0) (pos 0)) (point_of (pos 216) (pos 0)) (point_of (pos 216) (pos 216)) (pos 3) None (record { kind = Miter; ending = tip; starting = tip; origins = origins_of (Crossing (divided Exact Exact)) (Crossing (divided Exact Exact)); position = 1 })
 
 unfoldable pub cases : List Case
 cases =
@@ -136,7 +136,7 @@ cases =
     -- P6
     ∷ crossing (line (pos 0) (pos 0) (pos 4) (pos 0)) (line (pos 0) (pos 1) (pos 4) (pos 1)) Colinear
     -- P7
-    ∷ crossingWithAny (line (pos 3) (pos 3) (pos 3) (pos 3)) Colinear
+    ∷ crossing_with_any (line (pos 3) (pos 3) (pos 3) (pos 3)) Colinear
     -- P8
     ∷ nearly (point_of (pos 1) (pos 0)) (point_of (pos 1) (pos 1)) false
     ∷ nearly (point_of (pos 1) (pos 0)) (point_of (pos 2) (pos 1)) true
@@ -144,7 +144,7 @@ cases =
     ∷ sides (line (pos 0) (pos 0) (pos 10) (pos 0)) (point_of (pos 5) (negsuc 0)) true false
     ∷ sides (line (pos 0) (pos 0) (pos 10) (pos 0)) (point_of (pos 5) (pos 0)) true true
     -- P10
-    ∷ legsOf216
+    ∷ legs_of216
     -- P11
     ∷ board (run 0 2 ∷ run 4 6 ∷ run 2 4 ∷ []) (run 0 6 ∷ []) (pos 6)
     -- P12

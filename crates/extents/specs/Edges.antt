@@ -7,7 +7,7 @@ use Rattle.shapes.specs.declared.Offset.{Offset}
 use Rattle.shapes.specs.Shape.{line_of, LineNear, plus, minus, delta}
 use Rattle.bresenham.specs.declared.Parameters.{Parameters}
 use Rattle.parallels.specs.declared.Parallel.{Parallel}
-use Rattle.parallels.specs.Parallels.{plan_of, parallelsOf}
+use Rattle.parallels.specs.Parallels.{plan_of, parallels_of}
 use Rattle.extents.specs.declared.Edge.{Edge}
 use Rattle.extents.specs.declared.Ends.{Ends}
 use Rattle.extents.specs.declared.Edges.{Edges}
@@ -25,11 +25,11 @@ lasts s [] = s
 lasts s (p ∷ ps) = lasts (seen s p) ps
 
 -- both edges begin at the line's start as Normal
-abbrev pub freshEdge : Line → Edge
-freshEdge l = record { point = l.start; extra = false }
+abbrev pub fresh_edge : Line → Edge
+fresh_edge l = record { point = l.start; extra = false }
 
-abbrev pub freshEnds : Line → Ends
-freshEnds l = record { left = freshEdge l; right = freshEdge l }
+abbrev pub fresh_ends : Line → Ends
+fresh_ends l = record { left = fresh_edge l; right = fresh_edge l }
 
 -- an edge ends at its start plus the line's delta, less one major and one minor step if Extra
 unfoldable pub closed : Line → Parameters → Edge → Line
@@ -37,10 +37,10 @@ closed l along e =
     let whole = plus e.point (delta l) in
     line_of e.point (cond e.extra (minus whole (plus along.major along.minor)) whole)
 
-unfoldable pub extentsOf : Line → ℤ → Offset → Edges
-extentsOf l width offset =
+unfoldable pub extents_of : Line → ℤ → Offset → Edges
+extents_of l width offset =
     let along = (plan_of l width offset).parallel in
-    let s = lasts (freshEnds l) (parallelsOf l width offset) in
+    let s = lasts (fresh_ends l) (parallels_of l width offset) in
     record { left = closed l along s.left; right = closed l along s.right }
 
 -- both edges are within k

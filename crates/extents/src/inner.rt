@@ -1,12 +1,12 @@
 //! The edges of a thick line.
 ghost use Rattle.std.specs.Prelude.{◌≡◌};
-ghost use Rattle.shapes.specs.Limits.{lineLimit, thickLimit};
+ghost use Rattle.shapes.specs.Limits.{line_limit, thick_limit};
 ghost use Rattle.shapes.specs.Shape.{Near, LineNear};
 ghost use Rattle.whole.specs.Number.{Within};
-ghost use Rattle.bresenham.specs.Walk.{stepLimit, Sized};
+ghost use Rattle.bresenham.specs.Walk.{step_limit, Sized};
 ghost use Rattle.parallels.specs.Parallels.{Sound, Begun, parallels};
-ghost use Rattle.extents.specs.Entry.{refusedWith};
-ghost use Rattle.extents.specs.Edges.{freshEnds, seen, lasts, closed, extentsOf};
+ghost use Rattle.extents.specs.Entry.{refused_with};
+ghost use Rattle.extents.specs.Edges.{fresh_ends, seen, lasts, closed, extents_of};
 
 use crate::{Answer, Edge, Edges, Ends};
 use bresenham::Parameters;
@@ -17,7 +17,7 @@ use shapes::{Line, Offset, Point, Side};
 
 /// The ends before the first parallel: both edges begin at the line's start.
 pub fn fresh_ends(line: Line) -> Ends
-    ensures { result ≡ freshEnds line }
+    ensures { result ≡ fresh_ends line }
 {
     let point = line.start;
     let fresh = Edge {
@@ -51,8 +51,8 @@ pub fn see(ends: Ends, parallel: Parallel) -> Ends
 
 /// The last parallels of both sides, from a state on.
 pub fn last_ends(plan: Plan, state: Parallels, ends: Ends) -> Ends
-    requires sound { Sound thickLimit plan }
-    requires begun { Begun thickLimit plan state }
+    requires sound { Sound thick_limit plan }
+    requires begun { Begun thick_limit plan state }
     ensures { result ≡ lasts ends (parallels plan state) }
 {
     let mut at = state;
@@ -69,9 +69,9 @@ pub fn last_ends(plan: Plan, state: Parallels, ends: Ends) -> Ends
 
 /// The edge of a line that begins at `edge`.
 pub fn close(line: Line, along: Parameters, edge: Edge) -> Line
-    requires line_near { LineNear lineLimit line }
+    requires line_near { LineNear line_limit line }
     requires sized { Sized along }
-    requires near { Near stepLimit edge.point }
+    requires near { Near step_limit edge.point }
     ensures { result ≡ closed line along edge }
 {
     let start = edge.point;
@@ -88,9 +88,9 @@ pub fn close(line: Line, along: Parameters, edge: Edge) -> Line
 
 /// The left and the right edge of a line, for a width and an offset.
 pub fn extents(line: Line, width: i64, offset: Offset) -> Edges
-    requires line_near { LineNear lineLimit line }
-    requires within { Within width thickLimit }
-    ensures { result ≡ extentsOf line width offset }
+    requires line_near { LineNear line_limit line }
+    requires within { Within width thick_limit }
+    ensures { result ≡ extents_of line width offset }
 {
     let plan = plan_of(line, width, offset);
     let last = last_ends(plan, start(plan, line.start), fresh_ends(line));
@@ -102,7 +102,7 @@ pub fn extents(line: Line, width: i64, offset: Offset) -> Edges
 
 /// An answer that is refused.
 pub fn refused(number: u64) -> Answer
-    ensures { result ≡ refusedWith number }
+    ensures { result ≡ refused_with number }
 {
     let zero = Point { x: 0, y: 0 };
     let none = Line {

@@ -2,8 +2,8 @@
 pub mod inner; // inner.rt: the edges of a line that is known to be within its limits
 
 ghost use Rattle.std.specs.Prelude.{◌≡◌};
-ghost use Rattle.shapes.specs.Limits.{pointLimit};
-ghost use Rattle.extents.specs.Entry.{extentsAnswer};
+ghost use Rattle.shapes.specs.Limits.{point_limit};
+ghost use Rattle.extents.specs.Entry.{extents_answer};
 
 use shapes::inner::is_line_near;
 use shapes::limits::POINT;
@@ -41,7 +41,7 @@ pub struct Answer {
 
 /// The left and the right edge of a line. Refuses with 3 a width outside 0 to 64, then with 4 a coordinate outside 511.
 pub fn extents(line: Line, width: i64, offset: Offset) -> Answer
-    ensures { result ≡ extentsAnswer pointLimit line width offset }
+    ensures { result ≡ extents_answer point_limit line width offset }
 {
     let number = stroke_refusal(width, is_line_near(line, POINT));
     if number != 0 {

@@ -11,7 +11,7 @@ use Rattle.whole.specs.Rounded.{rounded}
 use Rattle.whole.specs.declared.Division.{Division}
 use Rattle.whole.specs.declared.Division.TheVariants.{Exact, Half, Rounded}
 use Rattle.whole.proofs.Laws.{rounded-nearest, nearest-unique, nearest-ratio}
-use Rattle.whole.proofs.Orders.{eqZ-no}
+use Rattle.whole.proofs.Orders.{eq_z-no}
 use Rattle.whole.proofs.Ring.{con, neg, ◌⊕◌, ◌⊖◌, ◌⊗◌, ◌≈◌, since, ring}
 use Rattle.whole.proofs.Tests.{and-iff, lt_iff, Chosen, chosen, chosen-exactly}
 use Rattle.shapes.specs.declared.Point.{Point}
@@ -19,22 +19,22 @@ use Rattle.shapes.specs.declared.Line.{Line}
 use Rattle.shapes.specs.declared.Side.{Side}
 use Rattle.shapes.specs.declared.Side.TheVariants.{Left, Right}
 use Rattle.shapes.specs.declared.Divisions.{Divisions}
-use Rattle.shapes.specs.Shape.{LineNear, isLineNear, point_of, determinant, dotProduct, quarterTurn, delta, minus}
+use Rattle.shapes.specs.Shape.{LineNear, is_line_near, point_of, determinant, dot_product, quarter_turn, delta, minus}
 use Rattle.shapes.proofs.Laws.{line-near-iff, turn-determinant}
-use Rattle.linear_equation.specs.Equation.{equationOf}
+use Rattle.linear_equation.specs.Equation.{equation_of}
 use Rattle.intersection_params.specs.declared.Solution.{Solution}
 use Rattle.intersection_params.specs.declared.Intersection.{Intersection}
 use Rattle.intersection_params.specs.declared.Intersection.TheVariants.{At, Colinear}
 use Rattle.intersection_params.specs.declared.Crossed.{Crossed}
 use Rattle.intersection_params.specs.declared.Crossed.TheVariants as crossed
-use Rattle.intersection_params.specs.Crossing.{cramerOf, solutionOf, side_of, drawnOf, crossing_of, divisionsOf, nearlyColinear, withDivisions, foundOf, areLinesNear, CrossingValues, divisionNumber, crossingValues, crossingAnswer, nearlyAnswer}
+use Rattle.intersection_params.specs.Crossing.{cramer_of, solution_of, side_of, drawn_of, crossing_of, divisions_of, nearly_colinear, with_divisions, found_of, are_lines_near, CrossingValues, division_number, crossing_values, crossing_answer, nearly_answer}
 use Rattle.intersection_params.specs.Words.{bend, OnLine, TrueCrossing, SamePoint, IsDrawn}
 
 -- ---- the numerators over the determinant are the true crossing, and nothing else is
 
 -- the Rust takes the determinant of the normals, which is that of the directions
-pub determinant-directions : (a b : Line) → (solutionOf a b).determinant ≡ bend a b
-unfolding solutionOf cramerOf equationOf
+pub determinant-directions : (a b : Line) → (solution_of a b).determinant ≡ bend a b
+unfolding solution_of cramer_of equation_of
 determinant-directions a b = turn-determinant (delta a) (delta b)
 
 module _ (a b : Line) where
@@ -42,36 +42,36 @@ module _ (a b : Line) where
   abbrev at8 : {A : ℤ → ℤ → ℤ → ℤ → ℤ → ℤ → ℤ → ℤ → Type 0} → ((sx sy dx dy tx ty ux uy : ℤ) → A sx sy dx dy tx ty ux uy) → A a.start.x a.start.y (a.end.x -ℤ a.start.x) (a.end.y -ℤ a.start.y) b.start.x b.start.y (b.end.x -ℤ b.start.x) (b.end.y -ℤ b.start.y)
   at8 f = f a.start.x a.start.y (a.end.x -ℤ a.start.x) (a.end.y -ℤ a.start.y) b.start.x b.start.y (b.end.x -ℤ b.start.x) (b.end.y -ℤ b.start.y)
 
-  solution-on-first : OnLine a (solutionOf a b)
-  unfolding solutionOf cramerOf equationOf determinant dotProduct quarterTurn delta minus
+  solution-on-first : OnLine a (solution_of a b)
+  unfolding solution_of cramer_of equation_of determinant dot_product quarter_turn delta minus
   solution-on-first =
       at8 (ring 8 (λ sx sy dx dy tx ty ux uy.
       dx ⊗ ((neg dy ⊗ (tx ⊗ neg uy ⊕ ty ⊗ ux) ⊖ neg uy ⊗ (sx ⊗ neg dy ⊕ sy ⊗ dx)) ⊖ (neg dy ⊗ ux ⊖ dx ⊗ neg uy) ⊗ sy)
       ⊖ dy ⊗ (((sx ⊗ neg dy ⊕ sy ⊗ dx) ⊗ ux ⊖ (tx ⊗ neg uy ⊕ ty ⊗ ux) ⊗ dx) ⊖ (neg dy ⊗ ux ⊖ dx ⊗ neg uy) ⊗ sx)
       ≈ con (pos 0)) refl)
 
-  solution-on-second : OnLine b (solutionOf a b)
-  unfolding solutionOf cramerOf equationOf determinant dotProduct quarterTurn delta minus
+  solution-on-second : OnLine b (solution_of a b)
+  unfolding solution_of cramer_of equation_of determinant dot_product quarter_turn delta minus
   solution-on-second =
       at8 (ring 8 (λ sx sy dx dy tx ty ux uy.
       ux ⊗ ((neg dy ⊗ (tx ⊗ neg uy ⊕ ty ⊗ ux) ⊖ neg uy ⊗ (sx ⊗ neg dy ⊕ sy ⊗ dx)) ⊖ (neg dy ⊗ ux ⊖ dx ⊗ neg uy) ⊗ ty)
       ⊖ uy ⊗ (((sx ⊗ neg dy ⊕ sy ⊗ dx) ⊗ ux ⊖ (tx ⊗ neg uy ⊕ ty ⊗ ux) ⊗ dx) ⊖ (neg dy ⊗ ux ⊖ dx ⊗ neg uy) ⊗ tx)
       ≈ con (pos 0)) refl)
 
-  pub solution-true : bend a b ≢ pos 0 → TrueCrossing a b (solutionOf a b)
-  solution-true h = record { some = rw (determinant-directions a b) h; on-first = solution-on-first; on-second = solution-on-second }
+  pub solution-true : bend a b ≢ pos 0 → TrueCrossing a b (solution_of a b)
+  solution-true h = record { some = rw (determinant-directions a b) h; on_first = solution-on-first; on_second = solution-on-second }
 
-  pub true-crossing-unique : (t : Solution) → OnLine a t → OnLine b t → SamePoint t (solutionOf a b)
-  unfolding solutionOf cramerOf equationOf determinant dotProduct quarterTurn delta minus
+  pub true-crossing-unique : (t : Solution) → OnLine a t → OnLine b t → SamePoint t (solution_of a b)
+  unfolding solution_of cramer_of equation_of determinant dot_product quarter_turn delta minus
   true-crossing-unique t p q =
       record {
-        same-x =
+        same_x =
             at8 (ring 11 (λ sx sy dx dy tx ty ux uy x y d.
             since ux (dx ⊗ (y ⊖ d ⊗ sy) ⊖ dy ⊗ (x ⊖ d ⊗ sx)) (con (pos 0)) (
             since (neg dx) (ux ⊗ (y ⊖ d ⊗ ty) ⊖ uy ⊗ (x ⊖ d ⊗ tx)) (con (pos 0)) (
             x ⊗ (neg dy ⊗ ux ⊖ dx ⊗ neg uy) ≈ ((sx ⊗ neg dy ⊕ sy ⊗ dx) ⊗ ux ⊖ (tx ⊗ neg uy ⊕ ty ⊗ ux) ⊗ dx) ⊗ d))) refl)
             t.x t.y t.determinant p q;
-        same-y =
+        same_y =
             at8 (ring 11 (λ sx sy dx dy tx ty ux uy x y d.
             since uy (dx ⊗ (y ⊖ d ⊗ sy) ⊖ dy ⊗ (x ⊖ d ⊗ sx)) (con (pos 0)) (
             since (neg dy) (ux ⊗ (y ⊖ d ⊗ ty) ⊖ uy ⊗ (x ⊖ d ⊗ tx)) (con (pos 0)) (
@@ -100,15 +100,15 @@ one_side Right Right p q = refl
 
 -- the point that the definition draws
 abbrev nearest : Line → Line → Point
-nearest a b = point_of (rounded (solutionOf a b).x (bend a b)) (rounded (solutionOf a b).y (bend a b))
+nearest a b = point_of (rounded (solution_of a b).x (bend a b)) (rounded (solution_of a b).y (bend a b))
 
 colinear : (a b : Line) → bend a b ≡ pos 0 → crossing_of a b ≡ Colinear
-unfolding crossing_of drawnOf
+unfolding crossing_of drawn_of
 colinear a b z = simp (determinant-directions a b ∙ z)
 
 drawn : (a b : Line) → bend a b ≢ pos 0 → crossing_of a b ≡ At (nearest a b) (side_of (bend a b))
-unfolding crossing_of drawnOf
-drawn a b h = simp (determinant-directions a b, eqZ-no (bend a b) (pos 0) h)
+unfolding crossing_of drawn_of
+drawn a b h = simp (determinant-directions a b, eq_z-no (bend a b) (pos 0) h)
 
 -- Colinear exactly when the determinant of the two directions is 0
 pub colinear-exactly : (a b : Line) → (crossing_of a b ≡ Colinear) ↔ (bend a b ≡ pos 0)
@@ -121,12 +121,12 @@ colinear-exactly a b = (λ e. by-case (ℤ_discrete (bend a b) (pos 0)) e, colin
 -- it is what 01 says
 as_said : (a b : Line) → bend a b ≢ pos 0 → IsDrawn a b (nearest a b) (side_of (bend a b))
 as_said a b h =
-    let s = solutionOf a b in
-    let same : (t : Solution) → TrueCrossing a b t → SamePoint t s = λ t c. true-crossing-unique a b t c.on-first c.on-second in
+    let s = solution_of a b in
+    let same : (t : Solution) → TrueCrossing a b t → SamePoint t s = λ t c. true-crossing-unique a b t c.on_first c.on_second in
     record {
       crosses = h;
-      nearest-x = λ t c. nearest-ratio s.x (bend a b) t.x t.determinant _ h c.some (rw determinant-directions at (same t c).same-x) (rounded-nearest s.x (bend a b) h);
-      nearest-y = λ t c. nearest-ratio s.y (bend a b) t.y t.determinant _ h c.some (rw determinant-directions at (same t c).same-y) (rounded-nearest s.y (bend a b) h);
+      nearest_x = λ t c. nearest-ratio s.x (bend a b) t.x t.determinant _ h c.some (rw determinant-directions at (same t c).same_x) (rounded-nearest s.x (bend a b) h);
+      nearest_y = λ t c. nearest-ratio s.y (bend a b) t.y t.determinant _ h c.some (rw determinant-directions at (same t c).same_y) (rounded-nearest s.y (bend a b) h);
       left = left-negative (bend a b);
     }
 
@@ -136,8 +136,8 @@ module _ (a b : Line) (p : Point) (s : Side) where
   only-said d =
       let h = d.crosses in
       let true-one = solution-true a b h in
-      let x = nearest-unique _ _ _ _ (rw determinant-directions at (d.nearest-x (solutionOf a b) true-one)) (rounded-nearest (solutionOf a b).x (bend a b) h) in
-      let y = nearest-unique _ _ _ _ (rw determinant-directions at (d.nearest-y (solutionOf a b) true-one)) (rounded-nearest (solutionOf a b).y (bend a b) h) in
+      let x = nearest-unique _ _ _ _ (rw determinant-directions at (d.nearest_x (solution_of a b) true-one)) (rounded-nearest (solution_of a b).x (bend a b) h) in
+      let y = nearest-unique _ _ _ _ (rw determinant-directions at (d.nearest_y (solution_of a b) true-one)) (rounded-nearest (solution_of a b).y (bend a b) h) in
       drawn a b h ∙ simp (sym x, sym y, sym (one_side s (side_of (bend a b)) d.left (left-negative (bend a b))))
 
   pub drawn-exactly : (crossing_of a b ≡ At p s) ↔ IsDrawn a b p s
@@ -153,67 +153,67 @@ module _ (a b : Line) (p : Point) (s : Side) where
 -- ---- the entries' answers
 
 -- each answer has values of its own: it can be read back from them
-abbrev readDivision : ℕ → Division
-readDivision n = cond (eqb n 1) Exact (cond (eqb n 2) Half Rounded)
+abbrev read_division : ℕ → Division
+read_division n = cond (eqb n 1) Exact (cond (eqb n 2) Half Rounded)
 
-read-division : (v : Division) → readDivision (divisionNumber v) ≡ v
+read-division : (v : Division) → read_division (division_number v) ≡ v
 read-division Exact = refl
 read-division Half = refl
 read-division Rounded = refl
 
-abbrev readBack : CrossingValues → Crossed
-readBack v =
+abbrev read_back : CrossingValues → Crossed
+read_back v =
     cond (eqb v.found 0) (crossed.Refused v.refusal)
     (cond (eqb v.found 1) crossed.Colinear
-    (crossed.At (point_of v.x v.y) (cond (eqb v.found 2) Left Right) (record { x = readDivision v.x-division; y = readDivision v.y-division })))
+    (crossed.At (point_of v.x v.y) (cond (eqb v.found 2) Left Right) (record { x = read_division v.x_division; y = read_division v.y_division })))
 
-read_back : (r : Crossed) → readBack (crossingValues r) ≡ r
-unfolding crossingValues
-read_back (crossed.At p Left ds) = simp read-division
-read_back (crossed.At p Right ds) = simp read-division
-read_back crossed.Colinear = refl
-read_back (crossed.Refused n) = refl
+read-back : (r : Crossed) → read_back (crossing_values r) ≡ r
+unfolding crossing_values
+read-back (crossed.At p Left ds) = simp read-division
+read-back (crossed.At p Right ds) = simp read-division
+read-back crossed.Colinear = refl
+read-back (crossed.Refused n) = refl
 
-pub values-tell : (r s : Crossed) → crossingValues r ≡ crossingValues s → r ≡ s
-values-tell r s e = sym (read_back r) ∙ ap readBack e ∙ read_back s
+pub values-tell : (r s : Crossed) → crossing_values r ≡ crossing_values s → r ≡ s
+values-tell r s e = sym (read-back r) ∙ ap read_back e ∙ read-back s
 
 -- both lines are inside a limit
 abbrev pub Inside : ℕ → Line → Line → Type 0
 Inside k a b = LineNear k a × LineNear k b
 
-pub near-exactly : (k : ℕ) (a b : Line) → (areLinesNear k a b ≡ true) ↔ Inside k a b
-unfolding areLinesNear
-near-exactly k a b = and-iff (isLineNear k a) (isLineNear k b) (line-near-iff k a) (line-near-iff k b)
+pub near-exactly : (k : ℕ) (a b : Line) → (are_lines_near k a b ≡ true) ↔ Inside k a b
+unfolding are_lines_near
+near-exactly k a b = and-iff (is_line_near k a) (is_line_near k b) (line-near-iff k a) (line-near-iff k b)
 
 -- inside the limit the crossing, else refusal 4 with 0 in every other value
-pub crossing-chosen : (k : ℕ) (a b : Line) → Chosen (Inside k a b) (crossingAnswer k a b) (crossingValues (foundOf (solutionOf a b))) (record { refusal = 4; found = 0; x = pos 0; y = pos 0; x-division = 0; y-division = 0 })
-unfolding crossingAnswer crossingValues
+pub crossing-chosen : (k : ℕ) (a b : Line) → Chosen (Inside k a b) (crossing_answer k a b) (crossing_values (found_of (solution_of a b))) (record { refusal = 4; found = 0; x = pos 0; y = pos 0; x_division = 0; y_division = 0 })
+unfolding crossing_answer crossing_values
 crossing-chosen k a b =
-    let c = chosen (areLinesNear k a b) (foundOf (solutionOf a b)) (crossed.Refused 4) (near-exactly k a b) in
-    record { holds = λ h. ap crossingValues (c.holds h); fails = λ n. ap crossingValues (c.fails n) }
+    let c = chosen (are_lines_near k a b) (found_of (solution_of a b)) (crossed.Refused 4) (near-exactly k a b) in
+    record { holds = λ h. ap crossing_values (c.holds h); fails = λ n. ap crossing_values (c.fails n) }
 
-pub nearly-chosen : (k : ℕ) (a b : Line) → Chosen (Inside k a b) (nearlyAnswer k a b) (record { refusal = 0; holds = nearlyColinear a b }) (record { refusal = 4; holds = false })
-unfolding nearlyAnswer
-nearly-chosen k a b = chosen (areLinesNear k a b) _ _ (near-exactly k a b)
+pub nearly-chosen : (k : ℕ) (a b : Line) → Chosen (Inside k a b) (nearly_answer k a b) (record { refusal = 0; holds = nearly_colinear a b }) (record { refusal = 4; holds = false })
+unfolding nearly_answer
+nearly-chosen k a b = chosen (are_lines_near k a b) _ _ (near-exactly k a b)
 
-unrefused-by : (ds : Divisions) (x : Intersection) → (crossingValues (withDivisions ds x)).refusal ≡ 0
-unfolding crossingValues
+unrefused-by : (ds : Divisions) (x : Intersection) → (crossing_values (with_divisions ds x)).refusal ≡ 0
+unfolding crossing_values
 unrefused-by ds (At p s) = refl
 unrefused-by ds Colinear = refl
 
 -- a crossing that is worked out is no refusal
-unrefused : (s : Solution) → (crossingValues (foundOf s)).refusal ≡ 0
-unfolding foundOf
-unrefused s = unrefused-by (divisionsOf s) (drawnOf s)
+unrefused : (s : Solution) → (crossing_values (found_of s)).refusal ≡ 0
+unfolding found_of
+unrefused s = unrefused-by (divisions_of s) (drawn_of s)
 
-pub crossing-refused : (k : ℕ) (a b : Line) → ((crossingAnswer k a b).refusal ≡ 4) ↔ (Inside k a b → ⊥)
-crossing-refused k a b = chosen-exactly (λ v. v.refusal) (unrefused (solutionOf a b)) refl (lit< tt) (crossing-chosen k a b)
+pub crossing-refused : (k : ℕ) (a b : Line) → ((crossing_answer k a b).refusal ≡ 4) ↔ (Inside k a b → ⊥)
+crossing-refused k a b = chosen-exactly (λ v. v.refusal) (unrefused (solution_of a b)) refl (lit< tt) (crossing-chosen k a b)
 
-pub nearly-refused : (k : ℕ) (a b : Line) → ((nearlyAnswer k a b).refusal ≡ 4) ↔ (Inside k a b → ⊥)
+pub nearly-refused : (k : ℕ) (a b : Line) → ((nearly_answer k a b).refusal ≡ 4) ↔ (Inside k a b → ⊥)
 nearly-refused k a b = chosen-exactly (λ v. v.refusal) refl refl (lit< tt) (nearly-chosen k a b)
 
 -- ---- the near-colinear test
 
-pub nearly-exactly : (a b : Line) → (nearlyColinear a b ≡ true) ↔ ((bend a b *ℤ bend a b) <ℤ pos (nat_abs (dotProduct (delta a) (delta b))))
-unfolding nearlyColinear
-nearly-exactly a b = rw determinant-directions (lt_iff (bend a b *ℤ bend a b) (pos (nat_abs (dotProduct (delta a) (delta b)))))
+pub nearly-exactly : (a b : Line) → (nearly_colinear a b ≡ true) ↔ ((bend a b *ℤ bend a b) <ℤ pos (nat_abs (dot_product (delta a) (delta b))))
+unfolding nearly_colinear
+nearly-exactly a b = rw determinant-directions (lt_iff (bend a b *ℤ bend a b) (pos (nat_abs (dot_product (delta a) (delta b)))))

@@ -9,42 +9,42 @@ use Rattle.whole.proofs.Tests.{and_left, and_right}
 use Rattle.shapes.specs.declared.Point.{Point}
 use Rattle.shapes.specs.declared.Line.{Line}
 use Rattle.shapes.specs.declared.Side.{Side}
-use Rattle.shapes.specs.Limits.{crossingLimit, lineLimit}
-use Rattle.shapes.specs.Shape.{LineNear, isLineNear}
+use Rattle.shapes.specs.Limits.{crossing_limit, line_limit}
+use Rattle.shapes.specs.Shape.{LineNear, is_line_near}
 use Rattle.shapes.proofs.Laws.{within-determinant}
 use Rattle.linear_equation.specs.declared.LinearEquation.{LinearEquation}
 use Rattle.linear_equation.specs.Equation.{Tame}
 use Rattle.linear_equation.proofs.Laws.{tame, line-room}
 use Rattle.intersection_params.specs.declared.Solution.{Solution}
 use Rattle.intersection_params.specs.declared.Intersection.TheVariants.{At, Colinear}
-use Rattle.intersection_params.specs.Crossing.{Roomy, cramerOf, solutionOf, drawnOf, areLinesNear}
+use Rattle.intersection_params.specs.Crossing.{Roomy, cramer_of, solution_of, drawn_of, are_lines_near}
 
-pub roomy : {a b : LinearEquation} → Tame a → Tame b → Roomy (cramerOf a b)
-unfolding cramerOf
+pub roomy : {a b : LinearEquation} → Tame a → Tame b → Roomy (cramer_of a b)
+unfolding cramer_of
 roomy p q =
     record {
-      determinant-within = within-determinant p.normal-near q.normal-near;
-      x-within = within-determinant (record { x-near = p.distance-within; y-near = q.distance-within }) (record { x-near = p.normal-near.y-near; y-near = q.normal-near.y-near });
-      y-within = within-determinant (record { x-near = p.normal-near.x-near; y-near = q.normal-near.x-near }) (record { x-near = p.distance-within; y-near = q.distance-within });
+      determinant_within = within-determinant p.normal_near q.normal_near;
+      x_within = within-determinant (record { x_near = p.distance_within; y_near = q.distance_within }) (record { x_near = p.normal_near.y_near; y_near = q.normal_near.y_near });
+      y_within = within-determinant (record { x_near = p.normal_near.x_near; y_near = q.normal_near.x_near }) (record { x_near = p.distance_within; y_near = q.distance_within });
     }
 
-pub solution-roomy : {a b : Line} → LineNear lineLimit a → LineNear lineLimit b → Roomy (solutionOf a b)
-unfolding solutionOf
+pub solution-roomy : {a b : Line} → LineNear line_limit a → LineNear line_limit b → Roomy (solution_of a b)
+unfolding solution_of
 solution-roomy h i = roomy (tame h) (tame i)
 
 -- a solution that is drawn at a point
-pub some-drawn : (s : Solution) {p : Point} {t : Side} → drawnOf s ≡ At p t → s.determinant ≢ pos 0
-unfolding drawnOf
+pub some-drawn : (s : Solution) {p : Point} {t : Side} → drawn_of s ≡ At p t → s.determinant ≢ pos 0
+unfolding drawn_of
 some-drawn s e z =
-    let none : drawnOf s ≡ Colinear = simp z in
+    let none : drawn_of s ≡ Colinear = simp z in
     let n : ◌≡◌ {A = ℕ} 0 1 = cc in
     omega arith
 
 -- what passes the entries' tests is small enough
-pub near_first : (a b : Line) → areLinesNear crossingLimit a b ≡ true → LineNear lineLimit a
-unfolding areLinesNear
-near_first a b e = line-room a (and_left (isLineNear crossingLimit a) (isLineNear crossingLimit b) e)
+pub near_first : (a b : Line) → are_lines_near crossing_limit a b ≡ true → LineNear line_limit a
+unfolding are_lines_near
+near_first a b e = line-room a (and_left (is_line_near crossing_limit a) (is_line_near crossing_limit b) e)
 
-pub near-second : (a b : Line) → areLinesNear crossingLimit a b ≡ true → LineNear lineLimit b
-unfolding areLinesNear
-near-second a b e = line-room b (and_right (isLineNear crossingLimit a) (isLineNear crossingLimit b) e)
+pub near-second : (a b : Line) → are_lines_near crossing_limit a b ≡ true → LineNear line_limit b
+unfolding are_lines_near
+near-second a b e = line-room b (and_right (is_line_near crossing_limit a) (is_line_near crossing_limit b) e)

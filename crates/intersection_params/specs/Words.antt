@@ -21,27 +21,27 @@ OnLine l t = determinant (delta l) (point_of (t.x -ℤ t.determinant *ℤ l.star
 
 pub record TrueCrossing (a b : Line) (t : Solution) : Type 0 where
   pub some : t.determinant ≢ pos 0
-  pub on-first : OnLine a t
-  pub on-second : OnLine b t
+  pub on_first : OnLine a t
+  pub on_second : OnLine b t
 
 -- two solutions whose determinants are not 0 are the same point
 pub record SamePoint (t u : Solution) : Type 0 where
-  pub same-x : t.x *ℤ u.determinant ≡ u.x *ℤ t.determinant
-  pub same-y : t.y *ℤ u.determinant ≡ u.y *ℤ t.determinant
+  pub same_x : t.x *ℤ u.determinant ≡ u.x *ℤ t.determinant
+  pub same_y : t.y *ℤ u.determinant ≡ u.y *ℤ t.determinant
 
 -- p is drawn with the outer side s: the directions differ, each coordinate is the nearest whole number to the true one,
 -- halves away from zero, and the side is Left exactly when the directions' determinant is negative
 pub record IsDrawn (a b : Line) (p : Point) (s : Side) : Type 0 where
   pub crosses : bend a b ≢ pos 0
-  pub nearest-x : (t : Solution) → TrueCrossing a b t → Nearest t.x t.determinant p.x
-  pub nearest-y : (t : Solution) → TrueCrossing a b t → Nearest t.y t.determinant p.y
+  pub nearest_x : (t : Solution) → TrueCrossing a b t → Nearest t.x t.determinant p.x
+  pub nearest_y : (t : Solution) → TrueCrossing a b t → Nearest t.y t.determinant p.y
   pub left : (s ≡ Left) ↔ (bend a b <ℤ pos 0)
 
 -- the coordinates of the true crossing come out so: whole numbers, half way between two, or neither
 pub record IsDivided (a b : Line) (ds : Divisions) : Type 0 where
-  pub x-comes-out : (t : Solution) → TrueCrossing a b t → ComesOut ds.x t.x t.determinant
-  pub y-comes-out : (t : Solution) → TrueCrossing a b t → ComesOut ds.y t.y t.determinant
+  pub x_comes_out : (t : Solution) → TrueCrossing a b t → ComesOut ds.x t.x t.determinant
+  pub y_comes_out : (t : Solution) → TrueCrossing a b t → ComesOut ds.y t.y t.determinant
 
 -- a point of whole coordinates as a solution
-abbrev pub wholePoint : Point → Solution
-wholePoint p = record { determinant = pos 1; x = p.x; y = p.y }
+abbrev pub whole_point : Point → Solution
+whole_point p = record { determinant = pos 1; x = p.x; y = p.y }

@@ -1,9 +1,9 @@
 //! The crossing of two lines, for the crates above: no test of the input, but bounds that the caller shows.
 ghost use Rattle.std.specs.Prelude.{◌≡◌, ◌≢◌, pos};
-ghost use Rattle.shapes.specs.Limits.{lineLimit};
+ghost use Rattle.shapes.specs.Limits.{line_limit};
 ghost use Rattle.shapes.specs.Shape.{LineNear};
 ghost use Rattle.linear_equation.specs.Equation.{Tame};
-ghost use Rattle.intersection_params.specs.Crossing.{Roomy, cramerOf, solutionOf, side_of, drawnOf, divisionsOf, foundOf, nearlyColinear};
+ghost use Rattle.intersection_params.specs.Crossing.{Roomy, cramer_of, solution_of, side_of, drawn_of, divisions_of, found_of, nearly_colinear};
 
 use crate::{Crossed, Intersection, Solution};
 use linear_equation::LinearEquation;
@@ -16,7 +16,7 @@ use whole::inner::{division, magnitude, rounded};
 pub fn cramer(a: LinearEquation, b: LinearEquation) -> Solution
     requires tame { Tame a }
     requires tame_2 { Tame b }
-    ensures { result ≡ cramerOf a b }
+    ensures { result ≡ cramer_of a b }
 {
     let m = a.normal;
     let n = b.normal;
@@ -35,9 +35,9 @@ pub fn cramer(a: LinearEquation, b: LinearEquation) -> Solution
 
 /// The true crossing of two lines, not rounded.
 pub fn solve(first: Line, second: Line) -> Solution
-    requires line_near { LineNear lineLimit first }
-    requires line_near_2 { LineNear lineLimit second }
-    ensures { result ≡ solutionOf first second }
+    requires line_near { LineNear line_limit first }
+    requires line_near_2 { LineNear line_limit second }
+    ensures { result ≡ solution_of first second }
 {
     cramer(from_line(first), from_line(second))
 }
@@ -56,7 +56,7 @@ pub fn outer_side(determinant: i64) -> Side
 /// A solution, rounded to the nearest whole coordinates.
 pub fn drawn(solution: Solution) -> Intersection
     requires { Roomy solution }
-    ensures { result ≡ drawnOf solution }
+    ensures { result ≡ drawn_of solution }
 {
     let determinant = solution.determinant;
     if determinant == 0 {
@@ -74,7 +74,7 @@ pub fn drawn(solution: Solution) -> Intersection
 pub fn divisions(solution: Solution) -> Divisions
     requires roomy { Roomy solution }
     requires determinant_nonzero { solution.determinant ≢ pos 0 }
-    ensures { result ≡ divisionsOf solution }
+    ensures { result ≡ divisions_of solution }
 {
     let determinant = solution.determinant;
     Divisions {
@@ -86,7 +86,7 @@ pub fn divisions(solution: Solution) -> Divisions
 /// A solution as an answer; never a refusal.
 pub fn found(solution: Solution) -> Crossed
     requires { Roomy solution }
-    ensures { result ≡ foundOf solution }
+    ensures { result ≡ found_of solution }
 {
     let Intersection::At(point, side) = drawn(solution) else {
         return Crossed::Colinear;
@@ -96,9 +96,9 @@ pub fn found(solution: Solution) -> Crossed
 
 /// Whether two lines run nearly the same way.
 pub fn nearly_colinear(first: Line, second: Line) -> bool
-    requires line_near { LineNear lineLimit first }
-    requires line_near_2 { LineNear lineLimit second }
-    ensures { result ≡ nearlyColinear first second }
+    requires line_near { LineNear line_limit first }
+    requires line_near_2 { LineNear line_limit second }
+    ensures { result ≡ nearly_colinear first second }
 {
     let d = solve(first, second).determinant;
     let dot = dot_product(delta(first), delta(second));

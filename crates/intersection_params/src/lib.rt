@@ -1,7 +1,7 @@
 //! Where two lines cross, and whether they run so nearly alike that rounding spoils the crossing: `intersection_params.rs`.
 ghost use Rattle.std.specs.Prelude.{◌≡◌};
-ghost use Rattle.shapes.specs.Limits.{crossingLimit};
-ghost use Rattle.intersection_params.specs.Crossing.{areLinesNear, crossingValues, crossingAnswer, nearlyAnswer};
+ghost use Rattle.shapes.specs.Limits.{crossing_limit};
+ghost use Rattle.intersection_params.specs.Crossing.{are_lines_near, crossing_values, crossing_answer, nearly_answer};
 
 pub mod inner; // inner.rt: the same without the tests
 
@@ -49,7 +49,7 @@ pub struct Solution {
 /// exactly where the determinant of the two directions is negative; Colinear exactly where it is 0, as it is where a line's
 /// start is its end. A coordinate beyond 1,023 is refused with 4.
 pub fn crossing(first: Line, second: Line) -> Crossed
-    ensures { crossingValues result ≡ crossingAnswer crossingLimit first second }
+    ensures { crossing_values result ≡ crossing_answer crossing_limit first second }
 {
     if are_near(first, second) {
         return found(solve(first, second));
@@ -60,7 +60,7 @@ pub fn crossing(first: Line, second: Line) -> Crossed
 /// Whether two lines run nearly the same way: the squared determinant of their directions is strictly below the absolute
 /// value of the directions' dot product. A coordinate beyond 1,023 is refused with 4.
 pub fn nearly_colinear(first: Line, second: Line) -> Tested
-    ensures { result ≡ nearlyAnswer crossingLimit first second }
+    ensures { result ≡ nearly_answer crossing_limit first second }
 {
     if are_near(first, second) {
         return Tested {
@@ -76,7 +76,7 @@ pub fn nearly_colinear(first: Line, second: Line) -> Tested
 
 /// Whether both lines are inside the limit.
 fn are_near(first: Line, second: Line) -> bool
-    ensures { result ≡ areLinesNear crossingLimit first second }
+    ensures { result ≡ are_lines_near crossing_limit first second }
 {
     both(
         is_line_near(first, CROSSING),

@@ -10,22 +10,22 @@ use Rattle.shapes.specs.Shape.{line_of}
 use Rattle.intersection_params.specs.declared.Intersection.{Intersection}
 use Rattle.intersection_params.specs.declared.Intersection.TheVariants.{At, Colinear}
 use Rattle.extents.specs.declared.Edges.{Edges}
-use Rattle.extents.specs.Edges.{extentsOf}
+use Rattle.extents.specs.Edges.{extents_of}
 use Rattle.line_join.specs.declared.Corners.{Corners}
 use Rattle.line_join.specs.declared.Join.{Join}
 use Rattle.line_join.specs.Miter.{reaches}
-use Rattle.line_join.specs.Join.{meet, cornersOf, outer, overlapping, bentAt, bentLeft, bentOf, start_of, end_of, join_of}
-use Rattle.line_join.specs.Caps.{isJoinNear}
-use Rattle.line_join.specs.Standing.{standingAt}
+use Rattle.line_join.specs.Join.{meet, corners_of, outer, overlapping, bent_at, bent_left, bent_of, start_of, end_of, join_of}
+use Rattle.line_join.specs.Caps.{is_join_near}
+use Rattle.line_join.specs.Standing.{standing_at}
 
 -- the corners' test
-pub standing-near : (k i : ℕ) (j : Join) → isJoinNear k (standingAt i j) ≡ isJoinNear k j
-unfolding isJoinNear
+pub standing-near : (k i : ℕ) (j : Join) → is_join_near k (standing_at i j) ≡ is_join_near k j
+unfolding is_join_near
 standing-near k i j = refl
 
 -- a join whose position was not set yet, with the position taken off
-pub taken-off : (i : ℕ) {j : Join} → j.position ≡ 0 → standingAt 0 (standingAt i j) ≡ j
-taken-off i {j} e = ap (λ p. standingAt p j) (sym e)
+pub taken-off : (i : ℕ) {j : Join} → j.position ≡ 0 → standing_at 0 (standing_at i j) ≡ j
+taken-off i {j} e = ap (λ p. standing_at p j) (sym e)
 
 -- ---- the three constructors
 
@@ -33,20 +33,20 @@ abbrev pub Unplaced : Join → Type 0
 Unplaced j = j.position ≡ 0
 
 module _ (first second : Edges) (mid : Point) (w : ℤ) where
-  at-unplaced : (s : Side) (c : Corners) → Unplaced (bentAt s c first second mid w)
-  unfolding bentAt
+  at-unplaced : (s : Side) (c : Corners) → Unplaced (bent_at s c first second mid w)
+  unfolding bent_at
   at-unplaced s c = either Unplaced (overlapping s first second) (λ e. refl) (λ e. either Unplaced (reaches mid (outer s c) w) (λ e. refl) (λ e. refl))
 
-  bent-by : (x y : Intersection) → Unplaced (bentLeft x y first second mid w)
-  bent-by (At l s) (At r t) = at-unplaced s (cornersOf l r)
+  bent-by : (x y : Intersection) → Unplaced (bent_left x y first second mid w)
+  bent-by (At l s) (At r t) = at-unplaced s (corners_of l r)
   bent-by (At l s) Colinear = refl
   bent-by Colinear y = refl
 
 pub join-unplaced : (a b c : Point) (w : ℤ) (o : Offset) → Unplaced (join_of a b c w o)
-unfolding join_of bentOf
+unfolding join_of bent_of
 join-unplaced a b c w o =
-    let first = extentsOf (line_of a b) w o in
-    let second = extentsOf (line_of b c) w o in
+    let first = extents_of (line_of a b) w o in
+    let second = extents_of (line_of b c) w o in
     bent-by first second b w (meet second.left first.left) (meet second.right first.right)
 
 module _ (a b : Point) (w : ℤ) (o : Offset) where

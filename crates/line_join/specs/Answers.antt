@@ -6,8 +6,8 @@ use Rattle.shapes.specs.declared.Side.{Side}
 use Rattle.shapes.specs.declared.Side.TheVariants.{Left, Right}
 use Rattle.shapes.specs.declared.Offset.{Offset}
 use Rattle.shapes.specs.declared.limits.Limits.{Limits}
-use Rattle.shapes.specs.Refusals.{cornerRefused}
-use Rattle.shapes.specs.Shape.{line_of, noPoint, noLine, isNear, isLineNear}
+use Rattle.shapes.specs.Refusals.{corner_refused}
+use Rattle.shapes.specs.Shape.{line_of, no_point, no_line, is_near, is_line_near}
 use Rattle.line_join.specs.declared.Kind.{Kind}
 use Rattle.line_join.specs.declared.Kind.TheVariants as kind
 use Rattle.line_join.specs.declared.Corners.{Corners}
@@ -20,16 +20,16 @@ use Rattle.line_join.specs.declared.Filler.{Filler}
 use Rattle.line_join.specs.declared.Filler.TheVariants as filler
 use Rattle.line_join.specs.declared.Caps.{Caps}
 use Rattle.line_join.specs.declared.Caps.TheVariants as caps
-use Rattle.shapes.specs.Strokes.{strokeRefusal}
-use Rattle.line_join.specs.Origins.{noCrossings}
-use Rattle.line_join.specs.Standing.{standingAt}
-use Rattle.line_join.specs.Join.{cornersOf, start_of, end_of, join_of}
-use Rattle.line_join.specs.Caps.{isJoinNear, fillerOf, startCapsOf, endCapsOf, isDegenerate}
+use Rattle.shapes.specs.Strokes.{stroke_refusal}
+use Rattle.line_join.specs.Origins.{no_crossings}
+use Rattle.line_join.specs.Standing.{standing_at}
+use Rattle.line_join.specs.Join.{corners_of, start_of, end_of, join_of}
+use Rattle.line_join.specs.Caps.{is_join_near, filler_of, start_caps_of, end_caps_of, is_degenerate}
 
 -- ---- values: each answer in 01's numbers, 0 where there are none, and no crossing on either side
 
-abbrev pub noCorners : Corners
-noCorners = cornersOf noPoint noPoint
+abbrev pub no_corners : Corners
+no_corners = corners_of no_point no_point
 
 -- the refusal; the position of the join that is refused with 5; the kind's number, 0 for a refusal; the corners; where they come from;
 -- and the position of the join that is made
@@ -42,26 +42,26 @@ pub record JoinValues : Type 0 where
   pub origins : Origins
   pub position : ℕ
 
-abbrev pub onSide : Side → ℕ → ℕ → ℕ
-onSide Left m n = m
-onSide Right m n = n
+abbrev pub on_side : Side → ℕ → ℕ → ℕ
+on_side Left m n = m
+on_side Right m n = n
 
-abbrev pub kindNumber : Kind → ℕ
-kindNumber kind.Miter = 1
-kindNumber (kind.Bevel s) = onSide s 2 3
-kindNumber (kind.Degenerate s) = onSide s 4 5
-kindNumber kind.Colinear = 6
-kindNumber kind.Start = 7
-kindNumber kind.End = 8
+abbrev pub kind_number : Kind → ℕ
+kind_number kind.Miter = 1
+kind_number (kind.Bevel s) = on_side s 2 3
+kind_number (kind.Degenerate s) = on_side s 4 5
+kind_number kind.Colinear = 6
+kind_number kind.Start = 7
+kind_number kind.End = 8
 
 -- what stands for no join
-abbrev pub noJoinValues : JoinValues
-noJoinValues = record { refusal = 0; bend = 0; kind = 0; ending = noCorners; starting = noCorners; origins = noCrossings; position = 0 }
+abbrev pub no_join_values : JoinValues
+no_join_values = record { refusal = 0; bend = 0; kind = 0; ending = no_corners; starting = no_corners; origins = no_crossings; position = 0 }
 
-unfoldable pub joinValues : Joined → JoinValues
-joinValues (joined.Made j) =
-    record { refusal = 0; bend = 0; kind = kindNumber j.kind; ending = j.ending; starting = j.starting; origins = j.origins; position = j.position }
-joinValues (joined.Refused n b) = record { refusal = n; bend = b; kind = 0; ending = noCorners; starting = noCorners; origins = noCrossings; position = 0 }
+unfoldable pub join_values : Joined → JoinValues
+join_values (joined.Made j) =
+    record { refusal = 0; bend = 0; kind = kind_number j.kind; ending = j.ending; starting = j.starting; origins = j.origins; position = j.position }
+join_values (joined.Refused n b) = record { refusal = n; bend = b; kind = 0; ending = no_corners; starting = no_corners; origins = no_crossings; position = 0 }
 
 -- the refusal, and the position of the join then; 1 for no line, 2 for one, 0 for a refusal; and the line
 pub record FillerValues : Type 0 where
@@ -70,10 +70,10 @@ pub record FillerValues : Type 0 where
   pub found : ℕ
   pub line : Line
 
-unfoldable pub fillerValues : Filler → FillerValues
-fillerValues (filler.Filled l) = record { refusal = 0; bend = 0; found = 2; line = l }
-fillerValues filler.Nothing = record { refusal = 0; bend = 0; found = 1; line = noLine }
-fillerValues (filler.Refused n b) = record { refusal = n; bend = b; found = 0; line = noLine }
+unfoldable pub filler_values : Filler → FillerValues
+filler_values (filler.Filled l) = record { refusal = 0; bend = 0; found = 2; line = l }
+filler_values filler.Nothing = record { refusal = 0; bend = 0; found = 1; line = no_line }
+filler_values (filler.Refused n b) = record { refusal = n; bend = b; found = 0; line = no_line }
 
 -- the refusal, and the position of the join then; the number of lines, 0 for a refusal; and the lines
 pub record CapsValues : Type 0 where
@@ -83,45 +83,45 @@ pub record CapsValues : Type 0 where
   pub first : Line
   pub second : Line
 
-unfoldable pub capsValues : Caps → CapsValues
-capsValues (caps.One l) = record { refusal = 0; bend = 0; count = 1; first = l; second = noLine }
-capsValues (caps.Two l m) = record { refusal = 0; bend = 0; count = 2; first = l; second = m }
-capsValues (caps.Refused n b) = record { refusal = n; bend = b; count = 0; first = noLine; second = noLine }
+unfoldable pub caps_values : Caps → CapsValues
+caps_values (caps.One l) = record { refusal = 0; bend = 0; count = 1; first = l; second = no_line }
+caps_values (caps.Two l m) = record { refusal = 0; bend = 0; count = 2; first = l; second = m }
+caps_values (caps.Refused n b) = record { refusal = n; bend = b; count = 0; first = no_line; second = no_line }
 
 -- ---- the constructors: 3 and 4 of the input, then 5 of the join, else the join
 
 -- 5 for a corner beyond k, with the join's position
 unfoldable pub made_of : ℕ → Join → Joined
-made_of k j = cond (isJoinNear k j) (joined.Made j) (joined.Refused cornerRefused j.position)
+made_of k j = cond (is_join_near k j) (joined.Made j) (joined.Refused corner_refused j.position)
 
 -- `near` says whether the points are inside their limit
-unfoldable pub joinAnswer : ℕ → ℤ → Bool → Join → JoinValues
-joinAnswer k w near j =
-    let n = strokeRefusal w near in
-    joinValues (cond (eqb n 0) (made_of k j) (joined.Refused n 0))
+unfoldable pub join_answer : ℕ → ℤ → Bool → Join → JoinValues
+join_answer k w near j =
+    let n = stroke_refusal w near in
+    join_values (cond (eqb n 0) (made_of k j) (joined.Refused n 0))
 
 -- each counts its own two or three points as the list: a start has position 0, the others 1
-unfoldable pub startAnswer : Limits → Point → Point → ℤ → Offset → JoinValues
-startAnswer limits a b w o = joinAnswer limits.corner w (isLineNear limits.point (line_of a b)) (start_of a b w o)
+unfoldable pub start_answer : Limits → Point → Point → ℤ → Offset → JoinValues
+start_answer limits a b w o = join_answer limits.corner w (is_line_near limits.point (line_of a b)) (start_of a b w o)
 
-unfoldable pub endAnswer : Limits → Point → Point → ℤ → Offset → JoinValues
-endAnswer limits a b w o = joinAnswer limits.corner w (isLineNear limits.point (line_of a b)) (standingAt 1 (end_of a b w o))
+unfoldable pub end_answer : Limits → Point → Point → ℤ → Offset → JoinValues
+end_answer limits a b w o = join_answer limits.corner w (is_line_near limits.point (line_of a b)) (standing_at 1 (end_of a b w o))
 
-unfoldable pub pointsAnswer : Limits → Point → Point → Point → ℤ → Offset → JoinValues
-pointsAnswer limits a b c w o = joinAnswer limits.corner w (isLineNear limits.point (line_of a b) && isNear limits.point c) (standingAt 1 (join_of a b c w o))
+unfoldable pub points_answer : Limits → Point → Point → Point → ℤ → Offset → JoinValues
+points_answer limits a b c w o = join_answer limits.corner w (is_line_near limits.point (line_of a b) && is_near limits.point c) (standing_at 1 (join_of a b c w o))
 
 -- ---- on a join handed in
 
-unfoldable pub fillerAnswer : ℕ → Join → FillerValues
-fillerAnswer k j = fillerValues (cond (isJoinNear k j) (fillerOf j) (filler.Refused cornerRefused j.position))
+unfoldable pub filler_answer : ℕ → Join → FillerValues
+filler_answer k j = filler_values (cond (is_join_near k j) (filler_of j) (filler.Refused corner_refused j.position))
 
-unfoldable pub startCapsAnswer : ℕ → Join → CapsValues
-startCapsAnswer k j = capsValues (cond (isJoinNear k j) (startCapsOf j) (caps.Refused cornerRefused j.position))
+unfoldable pub start_caps_answer : ℕ → Join → CapsValues
+start_caps_answer k j = caps_values (cond (is_join_near k j) (start_caps_of j) (caps.Refused corner_refused j.position))
 
-unfoldable pub endCapsAnswer : ℕ → Join → CapsValues
-endCapsAnswer k j = capsValues (cond (isJoinNear k j) (endCapsOf j) (caps.Refused cornerRefused j.position))
+unfoldable pub end_caps_answer : ℕ → Join → CapsValues
+end_caps_answer k j = caps_values (cond (is_join_near k j) (end_caps_of j) (caps.Refused corner_refused j.position))
 
-unfoldable pub degenerateAnswer : ℕ → Join → Judged
-degenerateAnswer k j =
-    cond (isJoinNear k j) (record { refusal = 0; bend = 0; degenerate = isDegenerate j.kind })
-    (record { refusal = cornerRefused; bend = j.position; degenerate = false })
+unfoldable pub degenerate_answer : ℕ → Join → Judged
+degenerate_answer k j =
+    cond (is_join_near k j) (record { refusal = 0; bend = 0; degenerate = is_degenerate j.kind })
+    (record { refusal = corner_refused; bend = j.position; degenerate = false })

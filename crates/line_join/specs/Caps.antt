@@ -2,7 +2,7 @@
 use Rattle.std.specs.Prelude.{Bool, true, false, ◌&&◌, ℕ}
 use Rattle.shapes.specs.declared.Line.{Line}
 use Rattle.shapes.specs.declared.Side.{Side}
-use Rattle.shapes.specs.Shape.{Near, isNear, line_of, midpoint}
+use Rattle.shapes.specs.Shape.{Near, is_near, line_of, midpoint}
 use Rattle.line_join.specs.declared.Kind.{Kind}
 use Rattle.line_join.specs.declared.Kind.TheVariants.{Miter, Bevel, Degenerate, Colinear, Start, End}
 use Rattle.line_join.specs.declared.Corners.{Corners}
@@ -21,15 +21,15 @@ pub record CornersNear (k : ℕ) (c : Corners) : Type 0 where
 
 -- all four corners
 pub record JoinNear (k : ℕ) (j : Join) : Type 0 where
-  pub ending-near : CornersNear k j.ending
-  pub starting-near : CornersNear k j.starting
+  pub ending_near : CornersNear k j.ending
+  pub starting_near : CornersNear k j.starting
 
 -- the tests for that
-unfoldable pub isCornersNear : ℕ → Corners → Bool
-isCornersNear k c = isNear k c.left && isNear k c.right
+unfoldable pub is_corners_near : ℕ → Corners → Bool
+is_corners_near k c = is_near k c.left && is_near k c.right
 
-unfoldable pub isJoinNear : ℕ → Join → Bool
-isJoinNear k j = isCornersNear k j.ending && isCornersNear k j.starting
+unfoldable pub is_join_near : ℕ → Join → Bool
+is_join_near k j = is_corners_near k j.ending && is_corners_near k j.starting
 
 -- ---- the filler line
 
@@ -38,40 +38,40 @@ abbrev pub between : Side → Corners → Corners → Line
 between s ending starting = line_of (outer s ending) (outer s starting)
 
 -- a bevel and a degenerate join have one, on the outer side
-abbrev pub fillerBy : Kind → Corners → Corners → Filler
-fillerBy Miter ending starting = Nothing
-fillerBy (Bevel s) ending starting = Filled (between s ending starting)
-fillerBy (Degenerate s) ending starting = Filled (between s ending starting)
-fillerBy Colinear ending starting = Nothing
-fillerBy Start ending starting = Nothing
-fillerBy End ending starting = Nothing
+abbrev pub filler_by : Kind → Corners → Corners → Filler
+filler_by Miter ending starting = Nothing
+filler_by (Bevel s) ending starting = Filled (between s ending starting)
+filler_by (Degenerate s) ending starting = Filled (between s ending starting)
+filler_by Colinear ending starting = Nothing
+filler_by Start ending starting = Nothing
+filler_by End ending starting = Nothing
 
-unfoldable pub fillerOf : Join → Filler
-fillerOf j = fillerBy j.kind j.ending j.starting
+unfoldable pub filler_of : Join → Filler
+filler_of j = filler_by j.kind j.ending j.starting
 
 -- ---- the cap lines
 
 -- one line from the left to the right corner, or two by way of the filler line's midpoint
-abbrev pub cappedBy : Filler → Corners → Caps
-cappedBy (Filled l) c = Two (line_of c.left (midpoint l)) (line_of (midpoint l) c.right)
-cappedBy Nothing c = One (line_of c.left c.right)
-cappedBy (Refused n b) c = One (line_of c.left c.right)
+abbrev pub capped_by : Filler → Corners → Caps
+capped_by (Filled l) c = Two (line_of c.left (midpoint l)) (line_of (midpoint l) c.right)
+capped_by Nothing c = One (line_of c.left c.right)
+capped_by (Refused n b) c = One (line_of c.left c.right)
 
 unfoldable pub cap_of : Join → Corners → Caps
-cap_of j c = cappedBy (fillerOf j) c
+cap_of j c = capped_by (filler_of j) c
 
-unfoldable pub startCapsOf : Join → Caps
-startCapsOf j = cap_of j j.starting
+unfoldable pub start_caps_of : Join → Caps
+start_caps_of j = cap_of j j.starting
 
-unfoldable pub endCapsOf : Join → Caps
-endCapsOf j = cap_of j j.ending
+unfoldable pub end_caps_of : Join → Caps
+end_caps_of j = cap_of j j.ending
 
 -- ---- whether it is degenerate
 
-abbrev pub isDegenerate : Kind → Bool
-isDegenerate Miter = false
-isDegenerate (Bevel s) = false
-isDegenerate (Degenerate s) = true
-isDegenerate Colinear = false
-isDegenerate Start = false
-isDegenerate End = false
+abbrev pub is_degenerate : Kind → Bool
+is_degenerate Miter = false
+is_degenerate (Bevel s) = false
+is_degenerate (Degenerate s) = true
+is_degenerate Colinear = false
+is_degenerate Start = false
+is_degenerate End = false

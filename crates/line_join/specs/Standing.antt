@@ -3,5 +3,5 @@ use Rattle.std.specs.Prelude.{ℕ}
 use Rattle.line_join.specs.declared.Join.{Join}
 
 -- all else is as it was
-abbrev pub standingAt : ℕ → Join → Join
-standingAt i j = record { kind = j.kind; ending = j.ending; starting = j.starting; origins = j.origins; position = i }
+abbrev pub standing_at : ℕ → Join → Join
+standing_at i j = record { kind = j.kind; ending = j.ending; starting = j.starting; origins = j.origins; position = i }

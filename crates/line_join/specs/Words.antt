@@ -6,9 +6,9 @@ use Rattle.shapes.specs.declared.Line.{Line}
 use Rattle.shapes.specs.declared.Side.{Side}
 use Rattle.shapes.specs.declared.Side.TheVariants.{Left, Right}
 use Rattle.shapes.specs.declared.Divisions.{Divisions}
-use Rattle.shapes.specs.Shape.{minus, squaredLength}
+use Rattle.shapes.specs.Shape.{minus, squared_length}
 use Rattle.intersection_params.specs.declared.Intersection.TheVariants.{At}
-use Rattle.intersection_params.specs.Crossing.{nearlyColinear}
+use Rattle.intersection_params.specs.Crossing.{nearly_colinear}
 use Rattle.intersection_params.specs.Words.{bend, IsDrawn, IsDivided}
 use Rattle.extents.specs.declared.Edges.{Edges}
 use Rattle.line_join.specs.declared.Kind.{Kind}
@@ -18,7 +18,7 @@ use Rattle.line_join.specs.declared.Origin.{Origin}
 use Rattle.line_join.specs.declared.Origin.TheVariants.{Crossing, NotACrossing}
 use Rattle.line_join.specs.declared.Origins.{Origins}
 use Rattle.line_join.specs.declared.Join.{Join}
-use Rattle.line_join.specs.Miter.{miterLimit}
+use Rattle.line_join.specs.Miter.{miter_limit}
 use Rattle.line_join.specs.Join.{meet, outer, overlapping}
 use Rattle.line_join.specs.Caps.{JoinNear}
 
@@ -31,7 +31,7 @@ module _ (first second : Edges) where
   pub record Bend (side : Side) (crossing : Corners) : Type 0 where
     pub left_at : meet second.left first.left ≡ At crossing.left side
     pub other : Side
-    pub right-at : meet second.right first.right ≡ At crossing.right other
+    pub right_at : meet second.right first.right ≡ At crossing.right other
 
   -- the lines overlap
   pub record Overlap (side : Side) : Type 0 where
@@ -45,14 +45,14 @@ module _ (first second : Edges) where
     pub crossing : Corners
     pub bend : Bend side crossing
     pub apart : overlapping side first second ≡ false
-    pub within : squaredLength (minus (outer side crossing) mid) ≤ℤ miterLimit w
+    pub within : squared_length (minus (outer side crossing) mid) ≤ℤ miter_limit w
 
   -- they do not, and it is beyond
   pub record Long (mid : Point) (w : ℤ) (side : Side) : Type 0 where
     pub crossing : Corners
     pub bend : Bend side crossing
     pub apart : overlapping side first second ≡ false
-    pub beyond : miterLimit w <ℤ squaredLength (minus (outer side crossing) mid)
+    pub beyond : miter_limit w <ℤ squared_length (minus (outer side crossing) mid)
 
   -- when a join is of a kind
   abbrev pub HasKind : Point → ℤ → Kind → Type 0
@@ -92,15 +92,15 @@ pub record BendTold (Free : Type 0) (k : ℕ) (join : ℕ → Join) (count refus
 -- exactly when the directions' determinant is negative
 pub record Ended (second first : Line) (p : Point) (s : Side) : Type 0 where
   pub crosses : bend second first ≢ pos 0
-  pub at-end : p ≡ first.end
+  pub at_end : p ≡ first.end
   pub left : (s ≡ Left) ↔ (bend second first <ℤ pos 0)
 
 -- ---- when lines overlap
 
 -- the edge on the inner side
-abbrev pub innerEdge : Side → Edges → Line
-innerEdge Left e = e.right
-innerEdge Right e = e.left
+abbrev pub inner_edge : Side → Edges → Line
+inner_edge Left e = e.right
+inner_edge Right e = e.left
 
 -- what a determinant says of a point on the outer side of a line, or on the line
 abbrev pub Outward : Side → ℤ → Type 0
@@ -110,13 +110,13 @@ Outward Right d = pos 0 ≤ℤ d
 -- ---- where a join's corners come from
 
 -- the edge and the origin on a side
-abbrev pub edgeOn : Side → Edges → Line
-edgeOn Left e = e.left
-edgeOn Right e = e.right
+abbrev pub edge_on : Side → Edges → Line
+edge_on Left e = e.left
+edge_on Right e = e.right
 
-abbrev pub originOn : Side → Origins → Origin
-originOn Left o = o.left
-originOn Right o = o.right
+abbrev pub origin_on : Side → Origins → Origin
+origin_on Left o = o.left
+origin_on Right o = o.right
 
 -- the kinds that take ends of edges on a side: a bevel on its outer side, all others but a miter on both
 abbrev pub TakesEnds : Kind → Side → Type 0
@@ -131,26 +131,26 @@ module _ (first second : Edges) (s : Side) (j : Join) where
   -- the corners of a side are the ends of its edges, by the join's kind
   pub record AtEdges : Type 0 where
     pub by_kind : TakesEnds j.kind s
-    pub ending_at : outer s j.ending ≡ (edgeOn s first).end
-    pub starting-at : outer s j.starting ≡ (edgeOn s second).start
+    pub ending_at : outer s j.ending ≡ (edge_on s first).end
+    pub starting_at : outer s j.starting ≡ (edge_on s second).start
 
   -- they are one, the first edge's end, since the edges run nearly alike
   pub record AtEnd : Type 0 where
-    pub alike : nearlyColinear (edgeOn s second) (edgeOn s first) ≡ true
-    pub ending_at : outer s j.ending ≡ (edgeOn s first).end
-    pub starting-at : outer s j.starting ≡ (edgeOn s first).end
+    pub alike : nearly_colinear (edge_on s second) (edge_on s first) ≡ true
+    pub ending_at : outer s j.ending ≡ (edge_on s first).end
+    pub starting_at : outer s j.starting ≡ (edge_on s first).end
 
   -- an edge's end was taken
   abbrev pub EndTaken : Type 0
-  EndTaken = TakesEnds j.kind s ⊎ (nearlyColinear (edgeOn s second) (edgeOn s first) ≡ true)
+  EndTaken = TakesEnds j.kind s ⊎ (nearly_colinear (edge_on s second) (edge_on s first) ≡ true)
 
   -- they are one, the drawn crossing of the side's edges, whose coordinates come out so
   pub record AtCrossing (ds : Divisions) : Type 0 where
     pub not_taken : EndTaken → ⊥
     pub outside : Side
-    pub ending_at : IsDrawn (edgeOn s second) (edgeOn s first) (outer s j.ending) outside
-    pub starting-at : outer s j.starting ≡ outer s j.ending
-    pub divided : IsDivided (edgeOn s second) (edgeOn s first) ds
+    pub ending_at : IsDrawn (edge_on s second) (edge_on s first) (outer s j.ending) outside
+    pub starting_at : outer s j.starting ≡ outer s j.ending
+    pub divided : IsDivided (edge_on s second) (edge_on s first) ds
 
   -- what an origin says of its side's corners
   abbrev pub ComesFrom : Origin → Type 0

@@ -1,11 +1,11 @@
 //! The join of two thick lines, from their edges. Edges know of no list: its position is 0 until `place` sets it.
 ghost use Rattle.std.specs.Prelude.{◌≡◌};
-ghost use Rattle.shapes.specs.Limits.{lineLimit};
+ghost use Rattle.shapes.specs.Limits.{line_limit};
 ghost use Rattle.shapes.specs.Shape.{Near, LineNear};
 ghost use Rattle.shapes.specs.Strokes.{Thin};
-ghost use Rattle.line_join.specs.Miter.{cornerRoom};
+ghost use Rattle.line_join.specs.Miter.{corner_room};
 ghost use Rattle.extents.specs.Edges.{EdgesNear};
-ghost use Rattle.line_join.specs.Join.{meetingOf, overlapping, plain, alike, cut, cutOff, outer, endsOf, startsOf, bentAt, tracedOf};
+ghost use Rattle.line_join.specs.Join.{meeting_of, overlapping, plain, alike, cut, cut_off, outer, ends_of, starts_of, bent_at, traced_of};
 ghost use Rattle.line_join.specs.Caps.{CornersNear};
 
 use crate::miter::is_short;
@@ -27,11 +27,11 @@ pub struct Meeting {
 
 /// The join of two thick lines that meet at `mid`, from their edges.
 pub fn bent(first: Edges, second: Edges, mid: Point, width: i64) -> Join
-    requires edges_near { EdgesNear lineLimit first }
-    requires edges_near_2 { EdgesNear lineLimit second }
-    requires near { Near lineLimit mid }
+    requires edges_near { EdgesNear line_limit first }
+    requires edges_near_2 { EdgesNear line_limit second }
+    requires near { Near line_limit mid }
     requires thin { Thin width }
-    ensures { result ≡ tracedOf first second mid width }
+    ensures { result ≡ traced_of first second mid width }
 {
     let on_left = meet(second.left, first.left);
     let on_right = meet(second.right, first.right);
@@ -59,12 +59,12 @@ pub fn bent_at(
     mid: Point,
     width: i64,
 ) -> Join
-    requires edges_near { EdgesNear lineLimit first }
-    requires edges_near_2 { EdgesNear lineLimit second }
-    requires corners_near { CornersNear cornerRoom crossing }
-    requires near { Near lineLimit mid }
+    requires edges_near { EdgesNear line_limit first }
+    requires edges_near_2 { EdgesNear line_limit second }
+    requires corners_near { CornersNear corner_room crossing }
+    requires near { Near line_limit mid }
     requires thin { Thin width }
-    ensures { result ≡ bentAt side crossing first second mid width }
+    ensures { result ≡ bent_at side crossing first second mid width }
 {
     if overlap(side, first, second) {
         return at_edges(Kind::Degenerate(side), first, second);
@@ -78,9 +78,9 @@ pub fn bent_at(
 
 /// Where two edges cross; where they run so nearly alike that rounding spoils the crossing, the end of the first edge.
 pub fn meet(second: Line, first: Line) -> Meeting
-    requires line_near { LineNear lineLimit second }
-    requires line_near_2 { LineNear lineLimit first }
-    ensures { result ≡ meetingOf second first }
+    requires line_near { LineNear line_limit second }
+    requires line_near_2 { LineNear line_limit first }
+    ensures { result ≡ meeting_of second first }
 {
     let end = first.end;
     let solution = solve(second, first);
@@ -104,8 +104,8 @@ pub fn meet(second: Line, first: Line) -> Meeting
 
 /// Whether the inner edge of the second line ends on the outer side of the first line's inner edge, or on it.
 pub fn overlap(side: Side, first: Edges, second: Edges) -> bool
-    requires edges_near { EdgesNear lineLimit first }
-    requires edges_near_2 { EdgesNear lineLimit second }
+    requires edges_near { EdgesNear line_limit first }
+    requires edges_near_2 { EdgesNear line_limit second }
     ensures { result ≡ overlapping side first second }
 {
     match side {
@@ -161,7 +161,7 @@ pub fn bevel(side: Side, crossing: Corners, first: Edges, second: Edges) -> Join
 
 /// The corner of an edge on the outer side, and a crossing on the inner one.
 pub fn cut_off(side: Side, edge: Corners, crossing: Corners) -> Corners
-    ensures { result ≡ cutOff side edge crossing }
+    ensures { result ≡ cut_off side edge crossing }
 {
     match side {
         Side::Left => {
@@ -189,7 +189,7 @@ pub fn outer_corner(side: Side, corners: Corners) -> Point
 
 /// Where the edges of a line end.
 pub fn ends(edges: Edges) -> Corners
-    ensures { result ≡ endsOf edges }
+    ensures { result ≡ ends_of edges }
 {
     let a = edges.left;
     let b = edges.right;
@@ -200,7 +200,7 @@ pub fn ends(edges: Edges) -> Corners
 
 /// Where the edges of a line start.
 pub fn starts(edges: Edges) -> Corners
-    ensures { result ≡ startsOf edges }
+    ensures { result ≡ starts_of edges }
 {
     let a = edges.left;
     let b = edges.right;

@@ -1,10 +1,10 @@
 //! Joins, for the crates above: no test of the input, but bounds that the caller shows.
 ghost use Rattle.std.specs.Prelude.{◌≡◌};
-ghost use Rattle.shapes.specs.Limits.{strokeLimit, lineLimit};
+ghost use Rattle.shapes.specs.Limits.{stroke_limit, line_limit};
 ghost use Rattle.shapes.specs.Shape.{Near};
 ghost use Rattle.shapes.specs.Strokes.{Thin};
 ghost use Rattle.line_join.specs.Join.{start_of, end_of, join_of};
-ghost use Rattle.line_join.specs.Caps.{JoinNear, isCornersNear, isJoinNear, between, fillerOf, cap_of, startCapsOf, endCapsOf, isDegenerate};
+ghost use Rattle.line_join.specs.Caps.{JoinNear, is_corners_near, is_join_near, between, filler_of, cap_of, start_caps_of, end_caps_of, is_degenerate};
 
 use crate::bend::{bent, ends, outer_corner, same_corners, starts};
 use crate::{Caps, Corners, Filler, Join, Kind};
@@ -15,8 +15,8 @@ use whole::inner::both;
 
 /// The join at which a route from `a` to `b` begins.
 pub fn start(a: Point, b: Point, width: i64, offset: Offset) -> Join
-    requires near { Near strokeLimit a }
-    requires near_2 { Near strokeLimit b }
+    requires near { Near stroke_limit a }
+    requires near_2 { Near stroke_limit b }
     requires thin { Thin width }
     ensures { result ≡ start_of a b width offset }
 {
@@ -26,8 +26,8 @@ pub fn start(a: Point, b: Point, width: i64, offset: Offset) -> Join
 
 /// The join at which a route that comes from `a` ends, at `b`.
 pub fn end(a: Point, b: Point, width: i64, offset: Offset) -> Join
-    requires near { Near strokeLimit a }
-    requires near_2 { Near strokeLimit b }
+    requires near { Near stroke_limit a }
+    requires near_2 { Near stroke_limit b }
     requires thin { Thin width }
     ensures { result ≡ end_of a b width offset }
 {
@@ -37,9 +37,9 @@ pub fn end(a: Point, b: Point, width: i64, offset: Offset) -> Join
 
 /// The join at `b` of the lines from `a` to `b` and from `b` to `c`.
 pub fn from_points(a: Point, b: Point, c: Point, width: i64, offset: Offset) -> Join
-    requires near { Near strokeLimit a }
-    requires near_2 { Near strokeLimit b }
-    requires near_3 { Near strokeLimit c }
+    requires near { Near stroke_limit a }
+    requires near_2 { Near stroke_limit b }
+    requires near_3 { Near stroke_limit c }
     requires thin { Thin width }
     ensures { result ≡ join_of a b c width offset }
 {
@@ -50,7 +50,7 @@ pub fn from_points(a: Point, b: Point, c: Point, width: i64, offset: Offset) -> 
 
 /// Whether all four corners of a join are within `limit`: if not, it is refused with 5.
 pub fn is_join_near(join: Join, limit: u32) -> bool
-    ensures { result ≡ isJoinNear limit join }
+    ensures { result ≡ is_join_near limit join }
 {
     both(
         are_corners_near(join.ending, limit),
@@ -60,14 +60,14 @@ pub fn is_join_near(join: Join, limit: u32) -> bool
 
 /// Whether two corners are within `limit`.
 fn are_corners_near(corners: Corners, limit: u32) -> bool
-    ensures { result ≡ isCornersNear limit corners }
+    ensures { result ≡ is_corners_near limit corners }
 {
     both(is_near(corners.left, limit), is_near(corners.right, limit))
 }
 
 /// The filler line of a bevel or of a degenerate join; never a refusal.
 pub fn filler(join: Join) -> Filler
-    ensures { result ≡ fillerOf join }
+    ensures { result ≡ filler_of join }
 {
     let kind = join.kind;
     match kind {
@@ -89,23 +89,23 @@ pub fn outer_line(side: Side, ending: Corners, starting: Corners) -> Line
 
 /// The lines that close the thick line that begins at a join; never a refusal.
 pub fn start_caps(join: Join) -> Caps
-    requires { JoinNear lineLimit join }
-    ensures { result ≡ startCapsOf join }
+    requires { JoinNear line_limit join }
+    ensures { result ≡ start_caps_of join }
 {
     cap(join, join.starting)
 }
 
 /// The lines that close the thick line that ends at a join; never a refusal.
 pub fn end_caps(join: Join) -> Caps
-    requires { JoinNear lineLimit join }
-    ensures { result ≡ endCapsOf join }
+    requires { JoinNear line_limit join }
+    ensures { result ≡ end_caps_of join }
 {
     cap(join, join.ending)
 }
 
 /// The lines from the left to the right of two corners: by way of the filler line's midpoint, if the join has such a line.
 pub fn cap(join: Join, corners: Corners) -> Caps
-    requires { JoinNear lineLimit join }
+    requires { JoinNear line_limit join }
     ensures { result ≡ cap_of join corners }
 {
     let left = corners.left;
@@ -131,7 +131,7 @@ pub fn cap(join: Join, corners: Corners) -> Caps
 
 /// Whether the lines at a join overlap.
 pub fn is_degenerate(join: Join) -> bool
-    ensures { result ≡ isDegenerate join.kind }
+    ensures { result ≡ is_degenerate join.kind }
 {
     let kind = join.kind;
     match kind {

@@ -1,8 +1,8 @@
 //! How two thick lines are joined: `line_join.rs`.
 ghost use Rattle.std.specs.Prelude.{◌≡◌};
-ghost use Rattle.shapes.specs.Limits.{cornerLimit, panel};
-ghost use Rattle.line_join.specs.Answers.{joinValues, fillerValues, capsValues, made_of, startAnswer, endAnswer, pointsAnswer};
-ghost use Rattle.line_join.specs.Answers.{fillerAnswer, startCapsAnswer, endCapsAnswer, degenerateAnswer};
+ghost use Rattle.shapes.specs.Limits.{corner_limit, panel};
+ghost use Rattle.line_join.specs.Answers.{join_values, filler_values, caps_values, made_of, start_answer, end_answer, points_answer};
+ghost use Rattle.line_join.specs.Answers.{filler_answer, start_caps_answer, end_caps_answer, degenerate_answer};
 
 pub mod bend; // bend.rt: the join of two thick lines
 pub mod inner; // inner.rt: the same without the tests
@@ -116,7 +116,7 @@ pub struct Judged {
 /// The join at which a route from `a` to `b` begins, at position 0. Refused with 3 for a width outside 0 to 64, with 4 for a
 /// coordinate beyond 511; its corners are within 1,023, so that it is never refused with 5.
 pub fn start(a: Point, b: Point, width: i64, offset: Offset) -> Joined
-    ensures { joinValues result ≡ startAnswer panel a b width offset }
+    ensures { join_values result ≡ start_answer panel a b width offset }
 {
     let line = Line { start: a, end: b };
     let refusal = stroke_refusal(width, is_line_near(line, POINT));
@@ -128,7 +128,7 @@ pub fn start(a: Point, b: Point, width: i64, offset: Offset) -> Joined
 
 /// The join at which a route that comes from `a` ends, at `b`: of the two points that at position 1. Refused as for `start`.
 pub fn end(a: Point, b: Point, width: i64, offset: Offset) -> Joined
-    ensures { joinValues result ≡ endAnswer panel a b width offset }
+    ensures { join_values result ≡ end_answer panel a b width offset }
 {
     let line = Line { start: a, end: b };
     let refusal = stroke_refusal(width, is_line_near(line, POINT));
@@ -141,7 +141,7 @@ pub fn end(a: Point, b: Point, width: i64, offset: Offset) -> Joined
 /// The join at `b` of the lines from `a` to `b` and from `b` to `c`: of the three points that at position 1. Refused with 3
 /// and 4 as `start`, and with 5 at position 1 for a corner beyond 4,095.
 pub fn from_points(a: Point, b: Point, c: Point, width: i64, offset: Offset) -> Joined
-    ensures { joinValues result ≡ pointsAnswer panel a b c width offset }
+    ensures { join_values result ≡ points_answer panel a b c width offset }
 {
     let line = Line { start: a, end: b };
     let near = both(is_line_near(line, POINT), is_near(c, POINT));
@@ -156,7 +156,7 @@ pub fn from_points(a: Point, b: Point, c: Point, width: i64, offset: Offset) -> 
 /// The line that closes the gap of a bevel or of a degenerate join. A corner beyond 4,095 is refused with 5, at the position
 /// that the join was given.
 pub fn filler_line(join: Join) -> Filler
-    ensures { fillerValues result ≡ fillerAnswer cornerLimit join }
+    ensures { filler_values result ≡ filler_answer corner_limit join }
 {
     if is_join_near(join, limits::CORNER) {
         return inner::filler(join);
@@ -167,7 +167,7 @@ pub fn filler_line(join: Join) -> Filler
 /// The lines that close the thick line that begins at a join: two where the join has a filler line, else one. A corner
 /// beyond 4,095 is refused with 5, at the position that the join was given.
 pub fn start_cap_lines(join: Join) -> Caps
-    ensures { capsValues result ≡ startCapsAnswer cornerLimit join }
+    ensures { caps_values result ≡ start_caps_answer corner_limit join }
 {
     if is_join_near(join, limits::CORNER) {
         return inner::start_caps(join);
@@ -178,7 +178,7 @@ pub fn start_cap_lines(join: Join) -> Caps
 /// The lines that close the thick line that ends at a join: two where the join has a filler line, else one. A corner
 /// beyond 4,095 is refused with 5, at the position that the join was given.
 pub fn end_cap_lines(join: Join) -> Caps
-    ensures { capsValues result ≡ endCapsAnswer cornerLimit join }
+    ensures { caps_values result ≡ end_caps_answer corner_limit join }
 {
     if is_join_near(join, limits::CORNER) {
         return inner::end_caps(join);
@@ -188,7 +188,7 @@ pub fn end_cap_lines(join: Join) -> Caps
 
 /// Whether the lines at a join overlap. A corner beyond 4,095 is refused with 5, at the position that the join was given.
 pub fn is_degenerate(join: Join) -> Judged
-    ensures { result ≡ degenerateAnswer cornerLimit join }
+    ensures { result ≡ degenerate_answer corner_limit join }
 {
     if is_join_near(join, limits::CORNER) {
         return Judged {
@@ -206,7 +206,7 @@ pub fn is_degenerate(join: Join) -> Judged
 
 /// A join whose input was not refused, unless a corner is beyond 4,095.
 fn checked(join: Join) -> Joined
-    ensures { result ≡ made_of cornerLimit join }
+    ensures { result ≡ made_of corner_limit join }
 {
     if is_join_near(join, limits::CORNER) {
         return Joined::Made(join);

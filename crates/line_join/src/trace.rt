@@ -1,13 +1,13 @@
 //! Where the corners of a join come from: a crossing of edges, or the ends of edges.
 ghost use Rattle.std.specs.Prelude.{◌≡◌};
-ghost use Rattle.line_join.specs.Origins.{noCrossings, cutOrigins, originsBy, tracedBy};
+ghost use Rattle.line_join.specs.Origins.{no_crossings, cut_origins, origins_by, traced_by};
 
 use crate::{Join, Kind, Origin, Origins};
 use shapes::Side;
 
 /// A join with its origins set, by its kind, where the left and the right edges meet with these.
 pub fn traced(join: Join, left: Origin, right: Origin) -> Join
-    ensures { result ≡ tracedBy left right join }
+    ensures { result ≡ traced_by left right join }
 {
     let kind = join.kind;
     let ending = join.ending;
@@ -25,7 +25,7 @@ pub fn traced(join: Join, left: Origin, right: Origin) -> Join
 /// Where the corners of a join come from: a miter uses both meetings, a bevel the one on its inner side, and every other
 /// join the ends of edges.
 fn origins(kind: Kind, left: Origin, right: Origin) -> Origins
-    ensures { result ≡ originsBy kind left right }
+    ensures { result ≡ origins_by kind left right }
 {
     match kind {
         Kind::Miter => Origins { left, right },
@@ -36,7 +36,7 @@ fn origins(kind: Kind, left: Origin, right: Origin) -> Origins
 
 /// The origins of a bevel: on the outer side, which was cut off, an edge's end.
 fn cut_origins(side: Side, left: Origin, right: Origin) -> Origins
-    ensures { result ≡ cutOrigins side left right }
+    ensures { result ≡ cut_origins side left right }
 {
     match side {
         Side::Left => Origins {
@@ -52,7 +52,7 @@ fn cut_origins(side: Side, left: Origin, right: Origin) -> Origins
 
 /// Ends of edges on both sides.
 pub fn no_crossings() -> Origins
-    ensures { result ≡ noCrossings }
+    ensures { result ≡ no_crossings }
 {
     Origins {
         left: Origin::NotACrossing,

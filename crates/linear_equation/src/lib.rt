@@ -1,7 +1,7 @@
 //! The equation of a line, how far a point lies from it, and on which side: the integer half of `linear_equation.rs`.
 ghost use Rattle.std.specs.Prelude.{◌≡◌};
-ghost use Rattle.shapes.specs.Limits.{crossingLimit};
-ghost use Rattle.linear_equation.specs.Equation.{areInside, equationAnswer, distanceAnswer, side_answer};
+ghost use Rattle.shapes.specs.Limits.{crossing_limit};
+ghost use Rattle.linear_equation.specs.Equation.{are_inside, equation_answer, distance_answer, side_answer};
 
 pub mod inner; // inner.rt: the same without the tests
 
@@ -43,7 +43,7 @@ pub struct Tested {
 
 /// The equation of a line. A coordinate beyond 1,023 is refused with 4.
 pub fn equation(line: Line) -> Equated
-    ensures { result ≡ equationAnswer crossingLimit line }
+    ensures { result ≡ equation_answer crossing_limit line }
 {
     if is_line_near(line, CROSSING) {
         return Equated {
@@ -63,7 +63,7 @@ pub fn equation(line: Line) -> Equated
 /// How far a point lies from a line, times the line's length: negative on the left, positive on the right, 0 on the line.
 /// A coordinate beyond 1,023 is refused with 4.
 pub fn distance(line: Line, point: Point) -> Measured
-    ensures { result ≡ distanceAnswer crossingLimit line point }
+    ensures { result ≡ distance_answer crossing_limit line point }
 {
     if are_near(line, point) {
         return Measured {
@@ -80,7 +80,7 @@ pub fn distance(line: Line, point: Point) -> Measured
 /// Whether a point lies on the given side of a line. A point on the line lies on both sides; so does every point where the
 /// line's start is its end. A coordinate beyond 1,023 is refused with 4.
 pub fn check_side(line: Line, point: Point, side: Side) -> Tested
-    ensures { result ≡ side_answer crossingLimit line point side }
+    ensures { result ≡ side_answer crossing_limit line point side }
 {
     if are_near(line, point) {
         return Tested {
@@ -96,7 +96,7 @@ pub fn check_side(line: Line, point: Point, side: Side) -> Tested
 
 /// Whether a line and a point are both inside the limit.
 fn are_near(line: Line, point: Point) -> bool
-    ensures { result ≡ areInside crossingLimit line point }
+    ensures { result ≡ are_inside crossing_limit line point }
 {
     both(is_line_near(line, CROSSING), is_near(point, CROSSING))
 }

@@ -8,36 +8,36 @@ use lib.Dec.{lit≤}
 use lib.ListN.{length}
 use lib.IntN.{ℤ, pos, nat_abs, neg_ℤ, ◌+ℤ◌, ◌-ℤ◌, ◌*ℤ◌}
 use lib.Signed.{quot_z, ◌≤ℤ◌}
-use Rattle.whole.specs.Number.{eqZ}
+use Rattle.whole.specs.Number.{eq_z}
 use Rattle.whole.proofs.Linear.{linear, sum, diff, opp, times, abs-parts, le-or-lt, there-and-off}
 use Rattle.whole.proofs.Bounds.{abs_neg, abs-mul}
-use Rattle.whole.proofs.Orders.{eqZ-refl, ordered}
+use Rattle.whole.proofs.Orders.{eq_z-refl, ordered}
 use Rattle.whole.proofs.Steps.{parts, square-is, far_none, half-natural, squares-most}
 use Rattle.shapes.specs.declared.Point.{Point}
 use Rattle.shapes.specs.declared.Line.{Line}
 use Rattle.shapes.specs.declared.Side.{Side}
 use Rattle.shapes.specs.declared.Side.TheVariants.{Left, Right}
 use Rattle.shapes.specs.declared.Offset.{Offset}
-use Rattle.shapes.specs.Limits.{lineLimit}
-use Rattle.shapes.specs.Shape.{point_of, line_of, Near, LineNear, plus, minus, delta, perpendicular, squaredLength, dotProduct, samePoint}
+use Rattle.shapes.specs.Limits.{line_limit}
+use Rattle.shapes.specs.Shape.{point_of, line_of, Near, LineNear, plus, minus, delta, perpendicular, squared_length, dot_product, same_point}
 use Rattle.shapes.proofs.Laws.{near-delta}
-use Rattle.bresenham.specs.Walk.{place_of, parametersAlong}
+use Rattle.bresenham.specs.Walk.{place_of, parameters_along}
 use Rattle.bresenham.specs.Walk as Walk
-use Rattle.bresenham.proofs.Laws.{isSteep, longer, shorter, parameters-are, Larger, larger as larger-of}
+use Rattle.bresenham.proofs.Laws.{is_steep, longer, shorter, parameters-are, Larger, larger as larger-of}
 use Rattle.parallels.specs.declared.Plan.{Plan}
 use Rattle.parallels.specs.declared.Flank.{Flank}
-use Rattle.parallels.specs.Parallels.{due, owed, swapped, firstSide, freshFlank, nextParallel, parallelsStart, aimed, turnedBack, thickness, planAlong, plan_of, parallelsOf, deltaLimit, larger, Sound, Steady, Reach, Ready, Paid, Going}
+use Rattle.parallels.specs.Parallels.{due, owed, swapped, first_side, fresh_flank, next_parallel, parallels_start, aimed, turned_back, thickness, plan_along, plan_of, parallels_of, delta_limit, larger, Sound, Steady, Reach, Ready, Paid, Going}
 use Rattle.parallels.proofs.Laws.{sided-paid, parallels-most}
 use Rattle.parallels.proofs.Steps.{took, reach-more}
 
 -- ---- the state before the first parallel
 
 module _ (w : ℕ) (plan : Plan) (h : Sound w plan) (p : Point) where
-  fresh-steady : Steady plan (freshFlank p)
+  fresh-steady : Steady plan (fresh_flank p)
   fresh-steady =
       let q = plan.perpendicular in
-      let fair = h.across-fair in
-      let along = h.along-fair in
+      let fair = h.across_fair in
+      let along = h.along_fair in
       let top = sum q.threshold q.gain in
       let low = diff (pos 1) q.threshold in
       let lower = diff (pos 1 -ℤ q.threshold) q.gain in
@@ -46,13 +46,13 @@ module _ (w : ℕ) (plan : Plan) (h : Sound w plan) (p : Point) where
 
   -- no Extra step is due at the start
   pub fresh-due : (side : Side) → due plan.perpendicular side (pos 0) ≡ false
-  fresh-due Left = omega (ordered, h.across-fair)
-  fresh-due Right = omega (ordered, h.across-fair, opp plan.perpendicular.threshold)
+  fresh-due Left = omega (ordered, h.across_fair)
+  fresh-due Right = omega (ordered, h.across_fair, opp plan.perpendicular.threshold)
 
   fresh-reach : (side : Side) → Reach p 0 plan.perpendicular side (place_of p (pos 0))
   fresh-reach side =
       let none : owed plan.perpendicular side (pos 0) ≡ 0 = rw (fresh-due side) refl in
-      record { x-reach = omega (arith, far_none p.x); y-reach = omega (arith, far_none p.y) }
+      record { x_reach = omega (arith, far_none p.x); y_reach = omega (arith, far_none p.y) }
 
   abbrev begin : ℤ
   begin = quot_z (plan.parallel.loss +ℤ plan.parallel.gain) (pos 2)
@@ -65,7 +65,7 @@ module _ (w : ℕ) (plan : Plan) (h : Sound w plan) (p : Point) where
   half : Half begin
   half =
       let q = plan.parallel in
-      let fair = h.along-fair in
+      let fair = h.along_fair in
       let same = h.level in
       let total = sum q.loss q.gain in
       let twice = times 2 q.threshold in
@@ -82,24 +82,24 @@ module _ (w : ℕ) (plan : Plan) (h : Sound w plan) (p : Point) where
   extra-most true = omega arith
   extra-most false = omega arith
 
-  fresh-paid : (side : Side) → Paid p plan begin side (freshFlank p)
-  fresh-paid side = side-paid side (freshFlank p) 0 fresh-steady (fresh-reach side) (omega arith)
+  fresh-paid : (side : Side) → Paid p plan begin side (fresh_flank p)
+  fresh-paid side = side-paid side (fresh_flank p) 0 fresh-steady (fresh-reach side) (omega arith)
 
-  skipped-paid : (side : Side) → Paid p plan begin side (nextParallel plan side (freshFlank p)).flank
+  skipped-paid : (side : Side) → Paid p plan begin side (next_parallel plan side (fresh_flank p)).flank
   skipped-paid side =
       let t = took h side fresh-steady in
-      side-paid side (nextParallel plan side (freshFlank p)).flank _ t.steady (t.reach (fresh-reach side)) (extra-most (nextParallel plan side (freshFlank p)).extra)
+      side-paid side (next_parallel plan side (fresh_flank p)).flank _ t.steady (t.reach (fresh-reach side)) (extra-most (next_parallel plan side (fresh_flank p)).extra)
 
-  pub going_start : Going w plan p (parallelsStart plan p)
-  unfolding parallelsStart
+  pub going_start : Going w plan p (parallels_start plan p)
+  unfolding parallels_start
   going_start =
-      let first = firstSide plan.offset in
+      let first = first_side plan.offset in
       record { some = half.some; most = omega (arith, half.most); paid = sided-paid first first (fresh-paid first) (skipped-paid (swapped first)) }
 
 -- ---- the plan of a delta that is not (0,0)
 
 thickness-is : (width : ℤ) (d : Point) → thickness width d ≡ pos (nat_abs (pos 2 *ℤ width) * nat_abs (pos 2 *ℤ width) * (nat_abs d.x * nat_abs d.x + nat_abs d.y * nat_abs d.y))
-unfolding thickness squaredLength dotProduct
+unfolding thickness squared_length dot_product
 thickness-is width d = rw (square-is (pos 2 *ℤ width), square-is d.x, square-is d.y) refl
 
 -- the same by the larger and the smaller delta, in which order they may be
@@ -108,60 +108,60 @@ squares-by true m n = omega arith
 squares-by false m n = refl
 
 pub thickness-of : (w : ℕ) (d : Point) → thickness (pos w) d ≡ pos (2 * w * (2 * w) * (longer d * longer d + shorter d * shorter d))
-thickness-of w d = thickness-is (pos w) d ∙ ap (λ n. pos (2 * w * (2 * w) * n)) (squares-by (isSteep d) (nat_abs d.x) (nat_abs d.y))
+thickness-of w d = thickness-is (pos w) d ∙ ap (λ n. pos (2 * w * (2 * w) * n)) (squares-by (is_steep d) (nat_abs d.x) (nat_abs d.y))
 
 -- what the accumulator begins with
-pub begins-with : (d : Point) → quot_z ((parametersAlong d).loss +ℤ (parametersAlong d).gain) (pos 2) ≡ pos (longer d + shorter d)
+pub begins-with : (d : Point) → quot_z ((parameters_along d).loss +ℤ (parameters_along d).gain) (pos 2) ≡ pos (longer d + shorter d)
 unfolding Walk.along
 begins-with d = rw (parameters-are d) (ap pos (omega arith))
 
-back-near : {k : ℕ} {d : Point} → Near k d → Near k (turnedBack d)
-back-near {k} {d} h = record { x-near = h.y-near; y-near = record { bound = rw (abs_neg d.x) h.x-near.bound } }
+back-near : {k : ℕ} {d : Point} → Near k d → Near k (turned_back d)
+back-near {k} {d} h = record { x_near = h.y_near; y_near = record { bound = rw (abs_neg d.x) h.x_near.bound } }
 
-module _ (w : ℕ) (d : Point) (near : Near deltaLimit d) (some : 1 ≤ nat_abs d.x + nat_abs d.y) where
-  along : Larger deltaLimit d (parametersAlong d)
+module _ (w : ℕ) (d : Point) (near : Near delta_limit d) (some : 1 ≤ nat_abs d.x + nat_abs d.y) where
+  along : Larger delta_limit d (parameters_along d)
   along = larger-of d near some
 
-  across : Larger deltaLimit (turnedBack d) (parametersAlong (turnedBack d))
-  across = larger-of (turnedBack d) (back-near near) (omega (arith, abs_neg d.x))
+  across : Larger delta_limit (turned_back d) (parameters_along (turned_back d))
+  across = larger-of (turned_back d) (back-near near) (omega (arith, abs_neg d.x))
 
-  level : (parametersAlong d).threshold ≡ (parametersAlong (turnedBack d)).threshold
+  level : (parameters_along d).threshold ≡ (parameters_along (turned_back d)).threshold
   level =
-      let m = (parametersAlong d).threshold in
-      let n = (parametersAlong (turnedBack d)).threshold in
+      let m = (parameters_along d).threshold in
+      let n = (parameters_along (turned_back d)).threshold in
       let up = along.least (nat_abs n) (omega (arith, across.y-less, abs_neg d.x)) across.x-less in
       let back = across.least (nat_abs m) along.y-less (omega (arith, along.x-less, abs_neg d.x)) in
       let fair = along.fair in
       let other = across.fair in
       omega (linear, parts {z = m} (omega linear), parts {z = n} (omega linear))
 
-  pub sound-along : (width : ℤ) (offset : Offset) → nat_abs width ≤ w → Sound w (planAlong d width offset)
-  unfolding planAlong
+  pub sound-along : (width : ℤ) (offset : Offset) → nat_abs width ≤ w → Sound w (plan_along d width offset)
+  unfolding plan_along
   sound-along width offset small =
       let twice : nat_abs (pos 2 *ℤ width) ≤ 2 * w = omega (arith, abs-mul (pos 2) width) in
-      let x : nat_abs d.x ≤ nat_abs (parametersAlong (turnedBack d)).threshold = omega (arith, across.y-less, abs_neg d.x) in
+      let x : nat_abs d.x ≤ nat_abs (parameters_along (turned_back d)).threshold = omega (arith, across.y-less, abs_neg d.x) in
       record {
-        along-fair = along.fair;
-        across-fair = across.fair;
+        along_fair = along.fair;
+        across_fair = across.fair;
         level = level;
         not_negative = rw (thickness-is width d) (omega linear);
-        threshold-most = rw (thickness-is width d) (squares-most w (nat_abs (parametersAlong (turnedBack d)).threshold) _ _ _ twice x across.x-less);
+        threshold_most = rw (thickness-is width d) (squares-most w (nat_abs (parameters_along (turned_back d)).threshold) _ _ _ twice x across.x-less);
       }
 
 -- ---- the plan of a line
 
 -- W1's perpendicular, which the Rust takes, has the delta that the plan takes
-pub perpendicular-delta : (l : Line) → delta (perpendicular l) ≡ turnedBack (delta l)
+pub perpendicular-delta : (l : Line) → delta (perpendicular l) ≡ turned_back (delta l)
 unfolding perpendicular plus delta minus
 perpendicular-delta l = simp (there-and-off l.start.x (l.end.y -ℤ l.start.y), there-and-off l.start.y (neg_ℤ (l.end.x -ℤ l.start.x)))
 
-apart_by : (a b : ℤ) → nat_abs (b -ℤ a) ≤ 0 → eqZ a b ≡ true
+apart_by : (a b : ℤ) → nat_abs (b -ℤ a) ≤ 0 → eq_z a b ≡ true
 apart_by a b h =
     let same : b ≡ a = omega (linear, diff b a, abs-parts (b -ℤ a)) in
-    rw same (eqZ-refl a)
+    rw same (eq_z-refl a)
 
-some-delta : (l : Line) → samePoint l.start l.end ≡ false → 1 ≤ nat_abs (delta l).x + nat_abs (delta l).y
-unfolding samePoint delta minus
+some-delta : (l : Line) → same_point l.start l.end ≡ false → 1 ≤ nat_abs (delta l).x + nat_abs (delta l).y
+unfolding same_point delta minus
 some-delta l e =
     let far = nat_abs (l.end.x -ℤ l.start.x) + nat_abs (l.end.y -ℤ l.start.y) in
     ⊎_elim
@@ -172,33 +172,33 @@ some-delta l e =
     absurd (omega arith))
     (le-or-lt 1 far)
 
-aimed-by : (l : Line) (t : Bool) → samePoint l.start l.end ≡ t → LineNear lineLimit l → Near deltaLimit (aimed l) × (1 ≤ nat_abs (aimed l).x + nat_abs (aimed l).y)
+aimed-by : (l : Line) (t : Bool) → same_point l.start l.end ≡ t → LineNear line_limit l → Near delta_limit (aimed l) × (1 ≤ nat_abs (aimed l).x + nat_abs (aimed l).y)
 unfolding aimed
-aimed-by l true e h = rw e (record { x-near = record { bound = lit≤ tt }; y-near = record { bound = lit≤ tt } }, lit≤ tt)
+aimed-by l true e h = rw e (record { x_near = record { bound = lit≤ tt }; y_near = record { bound = lit≤ tt } }, lit≤ tt)
 aimed-by l false e h = rw e (near-delta h, some-delta l e)
 
-pub sound-plan : {w : ℕ} (l : Line) (width : ℤ) (offset : Offset) → LineNear lineLimit l → nat_abs width ≤ w → Sound w (plan_of l width offset)
+pub sound-plan : {w : ℕ} (l : Line) (width : ℤ) (offset : Offset) → LineNear line_limit l → nat_abs width ≤ w → Sound w (plan_of l width offset)
 unfolding plan_of
 sound-plan {w} l width offset h small =
-    let a = aimed-by l (samePoint l.start l.end) refl h in
+    let a = aimed-by l (same_point l.start l.end) refl h in
     sound-along w (aimed l) a.0 a.1 width offset small
 
 -- ---- what the first step across a side asks
 
-pub ready-fresh : {w : ℕ} {plan : Plan} {p : Point} (side : Side) → Sound w plan → Near lineLimit p → Ready plan side (freshFlank p)
+pub ready-fresh : {w : ℕ} {plan : Plan} {p : Point} (side : Side) → Sound w plan → Near line_limit p → Ready plan side (fresh_flank p)
 ready-fresh {w} {plan} {p} side h near =
-    record { steady = fresh-steady w plan h p; origin = p; origin-near = near; reach = reach-more (fresh-reach w plan h p side) (lit≤ tt) }
+    record { steady = fresh-steady w plan h p; origin = p; origin_near = near; reach = reach-more (fresh-reach w plan h p side) (lit≤ tt) }
 
 -- ---- the parallels of a line end: there are at most 4w + 4
 
-pub parallels-few : {w : ℕ} (l : Line) (width : ℤ) (offset : Offset) → LineNear lineLimit l → nat_abs width ≤ w → length (parallelsOf l width offset) ≤ 4 * w + 4
-unfolding parallelsOf
+pub parallels-few : {w : ℕ} (l : Line) (width : ℤ) (offset : Offset) → LineNear line_limit l → nat_abs width ≤ w → length (parallels_of l width offset) ≤ 4 * w + 4
+unfolding parallels_of
 parallels-few {w} l width offset h small =
     let plan = plan_of l width offset in
     let sound = sound-plan l width offset h small in
-    parallels-most w plan sound l.start (parallelsStart plan l.start) (going_start w plan sound l.start)
+    parallels-most w plan sound l.start (parallels_start plan l.start) (going_start w plan sound l.start)
 
 -- a line from a point to itself takes its direction from (0,0)-(1,0)
 pub aimed-still : (a : Point) → aimed (line_of a a) ≡ point_of (pos 1) (pos 0)
-unfolding aimed samePoint
-aimed-still a = simp (eqZ-refl a.x, eqZ-refl a.y)
+unfolding aimed same_point
+aimed-still a = simp (eq_z-refl a.x, eq_z-refl a.y)

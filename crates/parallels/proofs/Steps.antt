@@ -18,12 +18,12 @@ use Rattle.shapes.specs.Shape.{Near, plus, minus}
 use Rattle.bresenham.specs.declared.Parameters.{Parameters}
 use Rattle.bresenham.specs.declared.Bresenham.{Bresenham}
 use Rattle.bresenham.specs.declared.Met.{Met}
-use Rattle.bresenham.specs.Walk.{place_of, Fair, nextAll, previousAll, increased, decreased}
+use Rattle.bresenham.specs.Walk.{place_of, Fair, next_all, previous_all, increased, decreased}
 use Rattle.parallels.specs.declared.Plan.{Plan}
 use Rattle.parallels.specs.declared.Flank.{Flank}
 use Rattle.parallels.specs.declared.Turn.{Turn}
 use Rattle.parallels.specs.declared.Taken.{Taken}
-use Rattle.parallels.specs.Parallels.{across, due, owed, falls, bent, turnAt, turn_of, nextParallel, Sound, Ranged, Bounded, Steady, Reach}
+use Rattle.parallels.specs.Parallels.{across, due, owed, falls, bent, turn_at, turn_of, next_parallel, Sound, Ranged, Bounded, Steady, Reach}
 
 -- ---- a step moves a coordinate by at most one
 
@@ -38,8 +38,8 @@ went Right p m = minus p m
 
 moved : {m : Point} (side : Side) (p : Point) → Near 1 m → (o : Point) → Moved o p (went side p m)
 unfolding plus minus
-moved {m} Left p h o = record { x-moved = far-step p.x m.x o.x h.x-near.bound; y-moved = far-step p.y m.y o.y h.y-near.bound }
-moved {m} Right p h o = record { x-moved = far-back p.x m.x o.x h.x-near.bound; y-moved = far-back p.y m.y o.y h.y-near.bound }
+moved {m} Left p h o = record { x-moved = far-step p.x m.x o.x h.x_near.bound; y-moved = far-step p.y m.y o.y h.y_near.bound }
+moved {m} Right p h o = record { x-moved = far-back p.x m.x o.x h.x_near.bound; y-moved = far-back p.y m.y o.y h.y_near.bound }
 
 -- ---- one step across a side
 
@@ -65,15 +65,15 @@ module _ {k : ℕ} {p : Parameters} (f : Fair k p) (b : Bresenham) (r : Ranged p
   e = b.error
 
   crossed-by : (side : Side) (t : Bool) → due p side e ≡ t → Crossed p side b (across p side b)
-  unfolding nextAll previousAll
+  unfolding next_all previous_all
   crossed-by Left true h =
-      rw h (extra {e = e -ℤ p.loss} h (omega (ordered, sum a g, diff (pos 1) a, diff (pos 1 -ℤ a) g, times 2 a, diff e p.loss)) (moved Left b.point f.minor-unit))
+      rw h (extra {e = e -ℤ p.loss} h (omega (ordered, sum a g, diff (pos 1) a, diff (pos 1 -ℤ a) g, times 2 a, diff e p.loss)) (moved Left b.point f.minor_unit))
   crossed-by Left false h =
-      rw h (normal {e = e +ℤ g} h (omega (ordered, sum a g, diff (pos 1) a, diff (pos 1 -ℤ a) g, sum e g)) (moved Left b.point f.major-unit))
+      rw h (normal {e = e +ℤ g} h (omega (ordered, sum a g, diff (pos 1) a, diff (pos 1 -ℤ a) g, sum e g)) (moved Left b.point f.major_unit))
   crossed-by Right true h =
-      rw h (extra {e = e +ℤ p.loss} h (omega (ordered, sum a g, diff (pos 1) a, diff (pos 1 -ℤ a) g, times 2 a, opp a, sum e p.loss)) (moved Right b.point f.minor-unit))
+      rw h (extra {e = e +ℤ p.loss} h (omega (ordered, sum a g, diff (pos 1) a, diff (pos 1 -ℤ a) g, times 2 a, opp a, sum e p.loss)) (moved Right b.point f.minor_unit))
   crossed-by Right false h =
-      rw h (normal {e = e -ℤ g} h (omega (ordered, sum a g, diff (pos 1) a, diff (pos 1 -ℤ a) g, opp a, diff e g)) (moved Right b.point f.major-unit))
+      rw h (normal {e = e -ℤ g} h (omega (ordered, sum a g, diff (pos 1) a, diff (pos 1 -ℤ a) g, opp a, diff e g)) (moved Right b.point f.major_unit))
 
   crossed : (side : Side) → Crossed p side b (across p side b)
   crossed side = crossed-by side (due p side e) refl
@@ -149,9 +149,9 @@ pub record Turned (plan : Plan) (side : Side) (f : Flank) (t : Turn) : Type 0 wh
   pub normal : due plan.perpendicular side f.at.error ≡ false → t.met ≡ true
 
 module _ {w : ℕ} {plan : Plan} (s : Sound w plan) (side : Side) {f : Flank} (h : Steady plan f) where
-  turned_by : {m : Met} → Crossed plan.perpendicular side f.at m → Turned plan side f (turnAt plan side f.error m)
+  turned_by : {m : Met} → Crossed plan.perpendicular side f.at m → Turned plan side f (turn_at plan side f.error m)
   turned_by (extra e c v) =
-      let b = bent-bounded s.along-fair f.error h.bounded (falls plan.flip side) in
+      let b = bent-bounded s.along_fair f.error h.bounded (falls plan.flip side) in
       record {
         took = record {
           steady = record { ranged = c.ranged; bounded = b.1 };
@@ -180,15 +180,15 @@ module _ {w : ℕ} {plan : Plan} (s : Sound w plan) (side : Side) {f : Flank} (h
 
   pub turned : Turned plan side f (turn_of plan side f)
   unfolding turn_of
-  turned = turned_by (crossed s.across-fair f.at h.ranged side)
+  turned = turned_by (crossed s.across_fair f.at h.ranged side)
 
 module _ {w : ℕ} {plan : Plan} (s : Sound w plan) (side : Side) {f : Flank} (h : Steady plan f) where
   -- 01, thick_points: at most one point is passed over
   pub passed-once : (turn_of plan side f).met ≡ false → (turn_of plan side (turn_of plan side f).taken.flank).met ≡ true
   passed-once e = let t = turned s side h in (turned s side t.took.steady).normal (t.passed e).1
 
-  took_by : (x : Bool) → (turn_of plan side f).met ≡ x → Took plan side f (nextParallel plan side f)
-  unfolding nextParallel
+  took_by : (x : Bool) → (turn_of plan side f).met ≡ x → Took plan side f (next_parallel plan side f)
+  unfolding next_parallel
   took_by true e = rw e (turned s side h).took
   took_by false e =
       let one = turned s side h in
@@ -198,13 +198,13 @@ module _ {w : ℕ} {plan : Plan} (s : Sound w plan) (side : Side) {f : Flank} (h
       let kept : (o : Point) (n : ℕ) → Reach o n plan.perpendicular side f.at → Reach o n plan.perpendicular side (turn_of plan side f).taken.flank.at = λ o n r. reach-more (rw is-extra at (one.took.reach r)) (omega arith) in
       rw e (record { steady = two.steady; first-bounded = two.first-bounded; away = λ r. two.away (kept _ _ r); reach = λ r. two.reach (kept _ _ r); grows = two.grows; spent = omega (arith, two.spent, once) })
 
-  pub took : Took plan side f (nextParallel plan side f)
+  pub took : Took plan side f (next_parallel plan side f)
   took = took_by (turn_of plan side f).met refl
 
-  pub passed_over : (turn_of plan side f).met ≡ false → nextParallel plan side (turn_of plan side f).taken.flank ≡ nextParallel plan side f
-  unfolding nextParallel
+  pub passed_over : (turn_of plan side f).met ≡ false → next_parallel plan side (turn_of plan side f).taken.flank ≡ next_parallel plan side f
+  unfolding next_parallel
   passed_over e = rw (passed-once e, e) refl
 
-pub met-here : (plan : Plan) (side : Side) (f : Flank) → (turn_of plan side f).met ≡ true → (turn_of plan side f).taken ≡ nextParallel plan side f
-unfolding nextParallel
+pub met-here : (plan : Plan) (side : Side) (f : Flank) → (turn_of plan side f).met ≡ true → (turn_of plan side f).taken ≡ next_parallel plan side f
+unfolding next_parallel
 met-here plan side f e = rw e refl

@@ -7,12 +7,12 @@ use Rattle.shapes.specs.declared.Side.{Side}
 use Rattle.shapes.specs.declared.Side.TheVariants.{Left, Right}
 use Rattle.shapes.specs.declared.Offset.{Offset}
 use Rattle.shapes.specs.declared.Offset.TheVariants as offset
-use Rattle.shapes.specs.Limits.{lineLimit}
-use Rattle.shapes.specs.Shape.{point_of, samePoint, Near, delta, squaredLength}
+use Rattle.shapes.specs.Limits.{line_limit}
+use Rattle.shapes.specs.Shape.{point_of, same_point, Near, delta, squared_length}
 use Rattle.bresenham.specs.declared.Parameters.{Parameters}
 use Rattle.bresenham.specs.declared.Bresenham.{Bresenham}
 use Rattle.bresenham.specs.declared.Met.{Met}
-use Rattle.bresenham.specs.Walk.{place_of, parametersAlong, nextAll, previousAll, increased, decreased, Fair}
+use Rattle.bresenham.specs.Walk.{place_of, parameters_along, next_all, previous_all, increased, decreased, Fair}
 use Rattle.parallels.specs.declared.Plan.{Plan}
 use Rattle.parallels.specs.declared.Flank.{Flank}
 use Rattle.parallels.specs.declared.Parallels.{Parallels}
@@ -29,10 +29,10 @@ swapped Left = Right
 swapped Right = Left
 
 -- on both sides of the line the right one is first
-abbrev pub firstSide : Offset → Side
-firstSide offset.None = Right
-firstSide offset.Left = Left
-firstSide offset.Right = Right
+abbrev pub first_side : Offset → Side
+first_side offset.None = Right
+first_side offset.Left = Left
+first_side offset.Right = Right
 
 -- the side of the parallel after one on this side
 abbrev pub followed : Offset → Side → Side
@@ -40,9 +40,9 @@ followed offset.None side = swapped side
 followed offset.Left side = side
 followed offset.Right side = side
 
-abbrev pub flankAt : Side → Parallels → Flank
-flankAt Left s = s.left
-flankAt Right s = s.right
+abbrev pub flank_at : Side → Parallels → Flank
+flank_at Left s = s.left
+flank_at Right s = s.right
 
 -- both sides, the one on `side` named first
 abbrev pub left_of : Side → Flank → Flank → Flank
@@ -56,8 +56,8 @@ sided side this other acc next = record { left = left_of side this other; right 
 
 -- forward on the left, back on the right
 abbrev pub across : Parameters → Side → Bresenham → Met
-across p Left b = nextAll p b
-across p Right b = previousAll p b
+across p Left b = next_all p b
+across p Right b = previous_all p b
 
 -- whether the error of a side's parallels falls with an extra step
 abbrev pub falls : Bool → Side → Bool
@@ -71,22 +71,22 @@ bent p falling e =
     (record { first = e; error = (decreased p e).error; carry = (decreased p e).carry })
     (record { first = (increased p e).error; error = (increased p e).error; carry = (increased p e).carry })
 
-abbrev pub normalTurn : Met → ℤ → Turn
-normalTurn m e = record { taken = record { start = place_of m.point e; extra = false; flank = record { at = m.state; error = e } }; met = true }
+abbrev pub normal_turn : Met → ℤ → Turn
+normal_turn m e = record { taken = record { start = place_of m.point e; extra = false; flank = record { at = m.state; error = e } }; met = true }
 
-abbrev pub extraTurn : Met → Bent → Turn
-extraTurn m b = record { taken = record { start = place_of m.point b.first; extra = true; flank = record { at = m.state; error = b.error } }; met = b.carry }
+abbrev pub extra_turn : Met → Bent → Turn
+extra_turn m b = record { taken = record { start = place_of m.point b.first; extra = true; flank = record { at = m.state; error = b.error } }; met = b.carry }
 
 -- a Normal point is met, and an Extra one where the error carries
-abbrev pub turnAt : Plan → Side → ℤ → Met → Turn
-turnAt plan side e m = cond m.extra (extraTurn m (bent plan.parallel (falls plan.flip side) e)) (normalTurn m e)
+abbrev pub turn_at : Plan → Side → ℤ → Met → Turn
+turn_at plan side e m = cond m.extra (extra_turn m (bent plan.parallel (falls plan.flip side) e)) (normal_turn m e)
 
 unfoldable pub turn_of : Plan → Side → Flank → Turn
-turn_of plan side f = turnAt plan side f.error (across plan.perpendicular side f.at)
+turn_of plan side f = turn_at plan side f.error (across plan.perpendicular side f.at)
 
 -- a point that is not met is passed over within the same call; at most one is (`passed-once`)
-unfoldable pub nextParallel : Plan → Side → Flank → Taken
-nextParallel plan side f =
+unfoldable pub next_parallel : Plan → Side → Flank → Taken
+next_parallel plan side f =
     let t = turn_of plan side f in
     cond t.met t.taken (turn_of plan side t.taken.flank).taken
 
@@ -94,46 +94,46 @@ nextParallel plan side f =
 
 -- equal start and end take direction and squared length from (0,0)-(1,0)
 unfoldable pub aimed : Line → Point
-aimed l = cond (samePoint l.start l.end) (point_of (pos 1) (pos 0)) (delta l)
+aimed l = cond (same_point l.start l.end) (point_of (pos 1) (pos 0)) (delta l)
 
 -- W1: the delta of the perpendicular
-abbrev pub turnedBack : Point → Point
-turnedBack d = point_of d.y (neg_ℤ d.x)
+abbrev pub turned_back : Point → Point
+turned_back d = point_of d.y (neg_ℤ d.x)
 
 -- the square of twice the width, times the squared length
 unfoldable pub thickness : ℤ → Point → ℤ
-thickness width d = (pos 2 *ℤ width) *ℤ (pos 2 *ℤ width) *ℤ squaredLength d
+thickness width d = (pos 2 *ℤ width) *ℤ (pos 2 *ℤ width) *ℤ squared_length d
 
 abbrev pub opposite : Point → Point
 opposite p = point_of (neg_ℤ p.x) (neg_ℤ p.y)
 
-unfoldable pub planAlong : Point → ℤ → Offset → Plan
-planAlong d width offset =
+unfoldable pub plan_along : Point → ℤ → Offset → Plan
+plan_along d width offset =
     record {
-      parallel = parametersAlong d;
-      perpendicular = parametersAlong (turnedBack d);
+      parallel = parameters_along d;
+      perpendicular = parameters_along (turned_back d);
       threshold = thickness width d;
-      flip = samePoint (parametersAlong (turnedBack d)).minor (opposite (parametersAlong d).major);
+      flip = same_point (parameters_along (turned_back d)).minor (opposite (parameters_along d).major);
       offset = offset;
     }
 
 unfoldable pub plan_of : Line → ℤ → Offset → Plan
-plan_of l width offset = planAlong (aimed l) width offset
+plan_of l width offset = plan_along (aimed l) width offset
 
 -- ---- the parallels
 
-abbrev pub freshFlank : Point → Flank
-freshFlank p = record { at = place_of p (pos 0); error = pos 0 }
+abbrev pub fresh_flank : Point → Flank
+fresh_flank p = record { at = place_of p (pos 0); error = pos 0 }
 
 -- half of both error steps; the line itself is skipped on the side that is not first
-unfoldable pub parallelsStart : Plan → Point → Parallels
-parallelsStart plan p =
-    let first = firstSide plan.offset in
-    sided first (freshFlank p) (nextParallel plan (swapped first) (freshFlank p)).flank (quot_z (plan.parallel.loss +ℤ plan.parallel.gain) (pos 2)) first
+unfoldable pub parallels_start : Plan → Point → Parallels
+parallels_start plan p =
+    let first = first_side plan.offset in
+    sided first (fresh_flank p) (next_parallel plan (swapped first) (fresh_flank p)).flank (quot_z (plan.parallel.loss +ℤ plan.parallel.gain) (pos 2)) first
 
 -- no parallel follows once the accumulator's square is above the threshold
-unfoldable pub isDone : Plan → Parallels → Bool
-isDone plan s = lt_z plan.threshold (s.accumulator *ℤ s.accumulator)
+unfoldable pub is_done : Plan → Parallels → Bool
+is_done plan s = lt_z plan.threshold (s.accumulator *ℤ s.accumulator)
 
 -- a Normal parallel adds the minor error step of the perpendicular to the accumulator, an Extra one the major
 unfoldable pub grown : Plan → ℤ → Bool → ℤ
@@ -143,15 +143,15 @@ grown plan acc extra = acc +ℤ cond extra plan.perpendicular.gain plan.perpendi
 abbrev pub handed : Side → Taken → Flank → ℤ → Side → Yielded
 handed side t other acc next = record { parallel = record { side = side; start = t.start; extra = t.extra }; state = sided side t.flank other acc next }
 
-unfoldable pub yieldOf : Plan → Parallels → Yielded
-yieldOf plan s =
-    let t = nextParallel plan s.side (flankAt s.side s) in
-    handed s.side t (flankAt (swapped s.side) s) (grown plan s.accumulator t.extra) (followed plan.offset s.side)
+unfoldable pub yield_of : Plan → Parallels → Yielded
+yield_of plan s =
+    let t = next_parallel plan s.side (flank_at s.side s) in
+    handed s.side t (flank_at (swapped s.side) s) (grown plan s.accumulator t.extra) (followed plan.offset s.side)
 
 -- at most n of the parallels from here
-unfoldable pub parallelsFrom : ℕ → Plan → Parallels → List Parallel
-parallelsFrom zero plan s = []
-parallelsFrom (suc n) plan s = cond (isDone plan s) [] ((yieldOf plan s).parallel ∷ parallelsFrom n plan (yieldOf plan s).state)
+unfoldable pub parallels_from : ℕ → Plan → Parallels → List Parallel
+parallels_from zero plan s = []
+parallels_from (suc n) plan s = cond (is_done plan s) [] ((yield_of plan s).parallel ∷ parallels_from n plan (yield_of plan s).state)
 
 -- the accumulator grows at each parallel, and none follows once it is above the threshold: there are no more than this
 unfoldable pub spare : Plan → Parallels → ℕ
@@ -159,17 +159,17 @@ spare plan s = suc (nat_abs plan.threshold) - nat_abs s.accumulator
 
 -- the parallels from here
 unfoldable pub parallels : Plan → Parallels → List Parallel
-parallels plan s = parallelsFrom (spare plan s) plan s
+parallels plan s = parallels_from (spare plan s) plan s
 
 -- the parallels of a line
-unfoldable pub parallelsOf : Line → ℤ → Offset → List Parallel
-parallelsOf l width offset = parallels (plan_of l width offset) (parallelsStart (plan_of l width offset) l.start)
+unfoldable pub parallels_of : Line → ℤ → Offset → List Parallel
+parallels_of l width offset = parallels (plan_of l width offset) (parallels_start (plan_of l width offset) l.start)
 
 -- ---- what holds of each plan and each state, from the start on
 
 -- the delta of a line within the lines' limit
-abbrev pub deltaLimit : ℕ
-deltaLimit = 2 ^ 15
+abbrev pub delta_limit : ℕ
+delta_limit = 2 ^ 15
 
 -- whether an Extra step is due on a side, and that as a number
 abbrev pub due : Parameters → Side → ℤ → Bool
@@ -184,11 +184,11 @@ abbrev pub larger : Plan → ℕ
 larger plan = nat_abs plan.perpendicular.threshold
 
 pub record Sound (w : ℕ) (plan : Plan) : Type 0 where
-  pub along-fair : Fair deltaLimit plan.parallel
-  pub across-fair : Fair deltaLimit plan.perpendicular
+  pub along_fair : Fair delta_limit plan.parallel
+  pub across_fair : Fair delta_limit plan.perpendicular
   pub level : plan.parallel.threshold ≡ plan.perpendicular.threshold
   pub not_negative : pos 0 ≤ℤ plan.threshold
-  pub threshold-most : nat_abs plan.threshold ≤ (4 * w * larger plan) * (4 * w * larger plan)
+  pub threshold_most : nat_abs plan.threshold ≤ (4 * w * larger plan) * (4 * w * larger plan)
 
 -- an error across the line: above -a - 2b, and at most a + 2b
 pub record Ranged (p : Parameters) (e : ℤ) : Type 0 where
@@ -206,14 +206,14 @@ pub record Steady (plan : Plan) (f : Flank) : Type 0 where
 
 -- a side is at most n from the line's start, in each axis, with one more for an Extra step that is due
 pub record Reach (o : Point) (n : ℕ) (p : Parameters) (side : Side) (b : Bresenham) : Type 0 where
-  pub x-reach : nat_abs (b.point.x -ℤ o.x) + owed p side b.error ≤ n
-  pub y-reach : nat_abs (b.point.y -ℤ o.y) + owed p side b.error ≤ n
+  pub x_reach : nat_abs (b.point.x -ℤ o.x) + owed p side b.error ≤ n
+  pub y_reach : nat_abs (b.point.y -ℤ o.y) + owed p side b.error ≤ n
 
 -- what a step across a side asks
 pub record Ready (plan : Plan) (side : Side) (f : Flank) : Type 0 where
   pub steady : Steady plan f
   pub origin : Point
-  pub origin-near : Near lineLimit origin
+  pub origin_near : Near line_limit origin
   pub reach : Reach origin (2 ^ 24) plan.perpendicular side f.at
 
 -- how far a side may be from the line's start: the accumulator pays for it
@@ -226,10 +226,10 @@ pub record Paid (o : Point) (plan : Plan) (acc : ℤ) (side : Side) (f : Flank) 
 pub record Going (w : ℕ) (plan : Plan) (o : Point) (s : Parallels) : Type 0 where
   pub some : pos 1 ≤ℤ s.accumulator
   pub most : nat_abs s.accumulator ≤ 4 * w * larger plan + 2 * larger plan
-  pub paid : (side : Side) → Paid o plan s.accumulator side (flankAt side s)
+  pub paid : (side : Side) → Paid o plan s.accumulator side (flank_at side s)
 
 -- what a step to the next parallel asks
 pub record Begun (w : ℕ) (plan : Plan) (s : Parallels) : Type 0 where
   pub origin : Point
-  pub origin-near : Near lineLimit origin
+  pub origin_near : Near line_limit origin
   pub going : Going w plan origin s

@@ -1,10 +1,10 @@
 //! The parallels of a line, one at a time. Each function asks for a plan and a state that `plan_of`, `start` or a step gave.
 ghost use Rattle.std.specs.Prelude.{◌≡◌, ◌^◌};
-ghost use Rattle.shapes.specs.Limits.{lineLimit, thickLimit};
+ghost use Rattle.shapes.specs.Limits.{line_limit, thick_limit};
 ghost use Rattle.shapes.specs.Shape.{Near, LineNear};
 ghost use Rattle.whole.specs.Number.{Within};
-ghost use Rattle.bresenham.specs.Walk.{stepLimit, Sized, Placed};
-ghost use Rattle.parallels.specs.Parallels.{firstSide, swapped, falls, across as acrossOf, bent, normalTurn, extraTurn, turn_of, nextParallel, planAlong, plan_of, followed, flankAt, sided, parallelsStart, isDone, grown, handed, yieldOf, deltaLimit, Sound, Ready, Begun};
+ghost use Rattle.bresenham.specs.Walk.{step_limit, Sized, Placed};
+ghost use Rattle.parallels.specs.Parallels.{first_side, swapped, falls, across as across_of, bent, normal_turn, extra_turn, turn_of, next_parallel, plan_along, plan_of, followed, flank_at, sided, parallels_start, is_done, grown, handed, yield_of, delta_limit, Sound, Ready, Begun};
 
 use crate::{Bent, Flank, Parallel, Parallels, Plan, Taken, Turn, Yielded};
 use bresenham::inner::{decrease_error, increase_error, next_all, parameters_along, previous_all};
@@ -14,7 +14,7 @@ use shapes::{Line, Offset, Point, Side};
 
 /// The side that the first parallel is on.
 pub fn first_side(offset: Offset) -> Side
-    ensures { result ≡ firstSide offset }
+    ensures { result ≡ first_side offset }
 {
     match offset {
         Offset::None => Side::Right,
@@ -47,7 +47,7 @@ pub fn is_falling(flip: bool, side: Side) -> bool
 pub fn across(p: Parameters, side: Side, at: Bresenham) -> Met
     requires sized { Sized p }
     requires placed { Placed at }
-    ensures { result ≡ acrossOf p side at }
+    ensures { result ≡ across_of p side at }
 {
     match side {
         Side::Left => next_all(p, at),
@@ -58,7 +58,7 @@ pub fn across(p: Parameters, side: Side, at: Bresenham) -> Met
 /// The error of a side's parallels after an extra step.
 pub fn bend(p: Parameters, falling: bool, error: i64) -> Bent
     requires sized { Sized p }
-    requires within { Within error stepLimit }
+    requires within { Within error step_limit }
     ensures { result ≡ bent p falling error }
 {
     if falling {
@@ -79,7 +79,7 @@ pub fn bend(p: Parameters, falling: bool, error: i64) -> Bent
 
 /// The parallel that starts at a Normal point, with the error of its side.
 pub fn normal_turn(met: Met, error: i64) -> Turn
-    ensures { result ≡ normalTurn met error }
+    ensures { result ≡ normal_turn met error }
 {
     let point = met.point;
     let at = met.state;
@@ -95,7 +95,7 @@ pub fn normal_turn(met: Met, error: i64) -> Turn
 
 /// The parallel that starts at an Extra point: it is met where the error carries.
 pub fn extra_turn(met: Met, bent: Bent) -> Turn
-    ensures { result ≡ extraTurn met bent }
+    ensures { result ≡ extra_turn met bent }
 {
     let point = met.point;
     let at = met.state;
@@ -120,7 +120,7 @@ pub fn extra_turn(met: Met, bent: Bent) -> Turn
 
 /// One step across a side, and the parallel that starts there: it is met where the step is Normal or the error carries.
 pub fn turn(plan: Plan, side: Side, flank: Flank) -> Turn
-    requires sound { Sound thickLimit plan }
+    requires sound { Sound thick_limit plan }
     requires ready { Ready plan side flank }
     ensures { result ≡ turn_of plan side flank }
 {
@@ -134,9 +134,9 @@ pub fn turn(plan: Plan, side: Side, flank: Flank) -> Turn
 
 /// The next parallel of a side: a point that does not carry is passed over.
 pub fn next_parallel(plan: Plan, side: Side, flank: Flank) -> Taken
-    requires sound { Sound thickLimit plan }
+    requires sound { Sound thick_limit plan }
     requires ready { Ready plan side flank }
-    ensures { result ≡ nextParallel plan side flank }
+    ensures { result ≡ next_parallel plan side flank }
 {
     let mut from = flank;
     loop {
@@ -151,9 +151,9 @@ pub fn next_parallel(plan: Plan, side: Side, flank: Flank) -> Taken
 
 /// The plan of the lines that have a delta, for a width and an offset.
 pub fn plan_along(d: Point, width: i64, offset: Offset) -> Plan
-    requires near { Near deltaLimit d }
-    requires within { Within width thickLimit }
-    ensures { result ≡ planAlong d width offset }
+    requires near { Near delta_limit d }
+    requires within { Within width thick_limit }
+    ensures { result ≡ plan_along d width offset }
 {
     let parallel = parameters_along(d);
     let turned = Point { x: d.y, y: -d.x };
@@ -177,8 +177,8 @@ pub fn plan_along(d: Point, width: i64, offset: Offset) -> Plan
 
 /// The plan of a line for a width and an offset. A line whose start is its end goes as (0,0)-(1,0) does.
 pub fn plan_of(line: Line, width: i64, offset: Offset) -> Plan
-    requires line_near { LineNear lineLimit line }
-    requires within { Within width thickLimit }
+    requires line_near { LineNear line_limit line }
+    requires within { Within width thick_limit }
     ensures { result ≡ plan_of line width offset }
 {
     if same_point(line.start, line.end) {
@@ -200,7 +200,7 @@ pub fn follow(offset: Offset, side: Side) -> Side
 
 /// One side of a state.
 pub fn flank_at(state: Parallels, side: Side) -> Flank
-    ensures { result ≡ flankAt side state }
+    ensures { result ≡ flank_at side state }
 {
     let left = state.left;
     let right = state.right;
@@ -233,9 +233,9 @@ pub fn sides(side: Side, this: Flank, other: Flank, accumulator: i64, next: Side
 /// The state before the first parallel of a line that starts at `point`: the line itself is skipped on the side that is
 /// not first.
 pub fn start(plan: Plan, point: Point) -> Parallels
-    requires sound { Sound thickLimit plan }
-    requires near { Near lineLimit point }
-    ensures { result ≡ parallelsStart plan point }
+    requires sound { Sound thick_limit plan }
+    requires near { Near line_limit point }
+    ensures { result ≡ parallels_start plan point }
 {
     let at = Bresenham { point, error: 0 };
     let fresh = Flank { at, error: 0 };
@@ -249,9 +249,9 @@ pub fn start(plan: Plan, point: Point) -> Parallels
 
 /// Whether no parallel follows.
 pub fn is_done(plan: Plan, state: Parallels) -> bool
-    requires sound { Sound thickLimit plan }
-    requires begun { Begun thickLimit plan state }
-    ensures { result ≡ isDone plan state }
+    requires sound { Sound thick_limit plan }
+    requires begun { Begun thick_limit plan state }
+    ensures { result ≡ is_done plan state }
 {
     let accumulator = state.accumulator;
     plan.threshold < accumulator * accumulator
@@ -259,7 +259,7 @@ pub fn is_done(plan: Plan, state: Parallels) -> bool
 
 /// The accumulator after a parallel.
 pub fn grow(plan: Plan, accumulator: i64, extra: bool) -> i64
-    requires sound { Sound thickLimit plan }
+    requires sound { Sound thick_limit plan }
     requires within { Within accumulator (2 ^ 28) }
     ensures { result ≡ grown plan accumulator extra }
 {
@@ -286,9 +286,9 @@ pub fn hand_out(side: Side, taken: Taken, other: Flank, accumulator: i64, next: 
 
 /// The next parallel, of a state that is not done.
 pub fn next(plan: Plan, state: Parallels) -> Yielded
-    requires sound { Sound thickLimit plan }
-    requires begun { Begun thickLimit plan state }
-    ensures { result ≡ yieldOf plan state }
+    requires sound { Sound thick_limit plan }
+    requires begun { Begun thick_limit plan state }
+    ensures { result ≡ yield_of plan state }
 {
     let offset = plan.offset;
     let side = state.side;

@@ -9,115 +9,115 @@ use borrow.Author.Tests.{eq-eqb, ne_eqb}
 use lib.IntN.{ℤ}
 use lib.ListN.{length}
 use Rattle.shapes.specs.declared.limits.Limits.{Limits}
-use Rattle.shapes.specs.Limits.{lineLimit, Roomy}
-use Rattle.coordinates.specs.Refusal.{routeRefusal}
+use Rattle.shapes.specs.Limits.{line_limit, Roomy}
+use Rattle.coordinates.specs.Refusal.{route_refusal}
 use Rattle.coordinates.proofs.Laws.{accepted-exactly}
 use Rattle.whole.proofs.Tests.{else-false}
-use Rattle.route_joins.specs.Joins.{areJoinsNear, nearJoins, routeBend}
+use Rattle.route_joins.specs.Joins.{are_joins_near, near_joins, route_bend}
 use Rattle.route_joins.proofs.Near.{joins-exactly}
 use Rattle.route_joins.proofs.Bends.{near-all}
 use Rattle.route.specs.declared.Joins.{Joins}
 use Rattle.route.specs.declared.Prepared.{Prepared}
-use Rattle.route.specs.Joined.{Kept, joinsOf}
+use Rattle.route.specs.Joined.{Kept, joins_of}
 use Rattle.route.specs.declared.Verdict.{Verdict}
 use Rattle.route.specs.declared.Listing.{Listing}
-use Rattle.route.specs.Rows.{no_rows, rowsIn, rowsRefusal}
-use Rattle.route.specs.Answers.{drawRefusal, preparedOf, rowsAnswer, wholeRefusal, wholeAnswer, noListing, answerOn, listOn, rowAnswer, rowTo}
+use Rattle.route.specs.Rows.{no_rows, rows_in, rows_refusal}
+use Rattle.route.specs.Answers.{draw_refusal, prepared_of, rows_answer, whole_refusal, whole_answer, no_listing, answer_on, list_on, row_answer, row_to}
 use Rattle.route.proofs.Kept.{kept-joins, kept_more}
 use Rattle.route.proofs.Refused.{draw-none, draw-bend}
 
 module _ (limits : Limits) (closed : Bool) (cs : List ℤ) (w : ℤ) where
   -- the joins of a route that nothing refuses may be drawn
-  pub kept-route : drawRefusal limits closed cs w ≡ 0 → Kept limits.corner (joinsOf limits.corner closed cs w)
+  pub kept-route : draw_refusal limits closed cs w ≡ 0 → Kept limits.corner (joins_of limits.corner closed cs w)
   kept-route e = let a = (draw-none limits closed cs w).0 e in kept-joins limits.corner closed cs w a.0.few ((joins-exactly limits.corner closed cs w).1 a.1)
 
   -- what `prepare` answers, once its list and its width are not refused
-  module _ (zero : routeRefusal limits.point closed cs w ≡ 0) {js : Joins} (made : js ≡ joinsOf limits.corner closed cs w) where
+  module _ (zero : route_refusal limits.point closed cs w ≡ 0) {js : Joins} (made : js ≡ joins_of limits.corner closed cs w) where
     abbrev all : Bool
-    all = areJoinsNear limits.corner closed cs w
+    all = are_joins_near limits.corner closed cs w
 
-    prepared : preparedOf limits closed cs w ≡ record { refusal = cond all 0 5; bend = cond all 0 (nearJoins limits.corner closed cs w); joins = joinsOf limits.corner closed cs w }
-    unfolding preparedOf drawRefusal routeBend
+    prepared : prepared_of limits closed cs w ≡ record { refusal = cond all 0 5; bend = cond all 0 (near_joins limits.corner closed cs w); joins = joins_of limits.corner closed cs w }
+    unfolding prepared_of draw_refusal route_bend
     prepared = rw zero
 
     -- all joins are near exactly when as many are as there are
     all_near : (js.near ≡ js.count) ↔ (all ≡ true)
-    unfolding joinsOf
+    unfolding joins_of
     all_near = rw made (near-all limits.corner closed cs w)
 
-    pub prepared-near : js.near ≡ js.count → ◌≡◌ {A = Prepared} (record { refusal = 0; bend = 0; joins = js }) (preparedOf limits closed cs w)
+    pub prepared-near : js.near ≡ js.count → ◌≡◌ {A = Prepared} (record { refusal = 0; bend = 0; joins = js }) (prepared_of limits closed cs w)
     prepared-near e = rw (prepared, all_near.0 e, made)
 
-    pub prepared-far : js.near ≢ js.count → ◌≡◌ {A = Prepared} (record { refusal = 5; bend = js.near; joins = js }) (preparedOf limits closed cs w)
-    unfolding joinsOf
+    pub prepared-far : js.near ≢ js.count → ◌≡◌ {A = Prepared} (record { refusal = 5; bend = js.near; joins = js }) (prepared_of limits closed cs w)
+    unfolding joins_of
     prepared-far other = rw (prepared, else-false all (λ e. other (all_near.1 e)), made)
 
   -- nothing refuses the route
   pub record Ready (js : Joins) : Type 0 where
-    pub draw : drawRefusal limits closed cs w ≡ 0
-    pub joins : js ≡ joinsOf limits.corner closed cs w
-    pub kept : Kept lineLimit js
+    pub draw : draw_refusal limits closed cs w ≡ 0
+    pub joins : js ≡ joins_of limits.corner closed cs w
+    pub kept : Kept line_limit js
 
-  pub ready : {r : Prepared} → Roomy limits → r ≡ preparedOf limits closed cs w → r.refusal ≡ 0 → Ready r.joins
-  unfolding preparedOf
+  pub ready : {r : Prepared} → Roomy limits → r ≡ prepared_of limits closed cs w → r.refusal ≡ 0 → Ready r.joins
+  unfolding prepared_of
   ready {r} roomy e none =
       let draw = sym (ap (λ p. p.refusal) e) ∙ none in
       let taken = (accepted-exactly limits.point closed cs w).1 ((draw-none limits closed cs w).0 draw).0 in
-      let joins : r.joins ≡ joinsOf limits.corner closed cs w = ap (λ p. p.joins) e ∙ rw (eq-eqb (routeRefusal limits.point closed cs w) 0 taken) in
-      record { draw = draw; joins = joins; kept = rw joins (kept_more (kept-route draw) roomy.corner-room) }
+      let joins : r.joins ≡ joins_of limits.corner closed cs w = ap (λ p. p.joins) e ∙ rw (eq-eqb (route_refusal limits.point closed cs w) 0 taken) in
+      record { draw = draw; joins = joins; kept = rw joins (kept_more (kept-route draw) roomy.corner_room) }
 
-  pub refused-with : {r : Prepared} → r ≡ preparedOf limits closed cs w → drawRefusal limits closed cs w ≡ r.refusal
-  unfolding preparedOf
+  pub refused-with : {r : Prepared} → r ≡ prepared_of limits closed cs w → draw_refusal limits closed cs w ≡ r.refusal
+  unfolding prepared_of
   refused-with e = sym (ap (λ p. p.refusal) e)
 
-  pub named-with : {r : Prepared} → r ≡ preparedOf limits closed cs w → routeBend limits closed cs w ≡ r.bend
-  unfolding preparedOf
+  pub named-with : {r : Prepared} → r ≡ prepared_of limits closed cs w → route_bend limits closed cs w ≡ r.bend
+  unfolding prepared_of
   named-with e = sym (ap (λ p. p.bend) e)
 
   -- ---- what the entries have to show
 
   abbrev d : ℕ
-  d = drawRefusal limits closed cs w
+  d = draw_refusal limits closed cs w
 
   module _ {m : ℕ} (e : d ≡ m) (some : m ≢ 0) where
-    pub whole-stopped : m ≡ wholeRefusal limits closed cs w
-    unfolding wholeRefusal
+    pub whole-stopped : m ≡ whole_refusal limits closed cs w
+    unfolding whole_refusal
     whole-stopped = rw (e, ne_eqb m 0 some)
 
-    module _ {b : ℕ} (at : routeBend limits closed cs w ≡ b) where
-      pub rows-stopped : no_rows m b ≡ rowsAnswer limits closed cs w
-      unfolding rowsAnswer
+    module _ {b : ℕ} (at : route_bend limits closed cs w ≡ b) where
+      pub rows-stopped : no_rows m b ≡ rows_answer limits closed cs w
+      unfolding rows_answer
       rows-stopped = rw (e, at, ne_eqb m 0 some)
 
-      pub verdict-stopped : ◌≡◌ {A = Verdict} (record { refusal = m; bend = b }) (wholeAnswer limits closed cs w)
-      unfolding wholeAnswer
+      pub verdict-stopped : ◌≡◌ {A = Verdict} (record { refusal = m; bend = b }) (whole_answer limits closed cs w)
+      unfolding whole_answer
       verdict-stopped = rw (← whole-stopped, at)
 
-      pub row-stopped : (row : ℤ) (out : List ℤ) {l : Listing} → l ≡ noListing m b → (l ≡ rowAnswer limits closed cs w row (length out)) × (out ≡ rowTo limits closed cs w row out)
-      unfolding rowAnswer rowTo
+      pub row-stopped : (row : ℤ) (out : List ℤ) {l : Listing} → l ≡ no_listing m b → (l ≡ row_answer limits closed cs w row (length out)) × (out ≡ row_to limits closed cs w row out)
+      unfolding row_answer row_to
       row-stopped row out is = (rw (e, at, ne_eqb m 0 some) is, rw (e, ne_eqb m 0 some))
 
   module _ {js : Joins} (r : Ready js) where
     -- so that no bend is named
-    none_named : routeBend limits closed cs w ≡ 0
+    none_named : route_bend limits closed cs w ≡ 0
     none_named = (draw-bend limits closed cs w).other (λ five. let none = r.draw in omega (arith, five, none))
 
-    pub rows_made : rowsIn js ≡ rowsAnswer limits closed cs w
-    unfolding rowsAnswer
+    pub rows_made : rows_in js ≡ rows_answer limits closed cs w
+    unfolding rows_answer
     rows_made = rw (r.joins, r.draw)
 
-    pub whole-made : rowsRefusal js (rowsIn js) ≡ wholeRefusal limits closed cs w
-    unfolding wholeRefusal
+    pub whole-made : rows_refusal js (rows_in js) ≡ whole_refusal limits closed cs w
+    unfolding whole_refusal
     whole-made = rw (r.joins, r.draw)
 
-    pub verdict-made : {m : ℕ} → m ≡ rowsRefusal js (rowsIn js) → ◌≡◌ {A = Verdict} (record { refusal = m; bend = 0 }) (wholeAnswer limits closed cs w)
-    unfolding wholeAnswer
+    pub verdict-made : {m : ℕ} → m ≡ rows_refusal js (rows_in js) → ◌≡◌ {A = Verdict} (record { refusal = m; bend = 0 }) (whole_answer limits closed cs w)
+    unfolding whole_answer
     verdict-made e = rw (e, whole-made, none_named)
 
-    pub row_made : (row : ℤ) (n : ℕ) → answerOn limits.corner js row n ≡ rowAnswer limits closed cs w row n
-    unfolding rowAnswer
+    pub row_made : (row : ℤ) (n : ℕ) → answer_on limits.corner js row n ≡ row_answer limits closed cs w row n
+    unfolding row_answer
     row_made row n = rw (r.joins, r.draw)
 
-    pub list-made : (row : ℤ) (out : List ℤ) → listOn limits.corner js row out ≡ rowTo limits closed cs w row out
-    unfolding rowTo
+    pub list-made : (row : ℤ) (out : List ℤ) → list_on limits.corner js row out ≡ row_to limits closed cs w row out
+    unfolding row_to
     list-made row out = rw (r.joins, r.draw)

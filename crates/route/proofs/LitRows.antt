@@ -20,24 +20,24 @@ use Rattle.shapes.specs.declared.limits.Limits.{Limits}
 use Rattle.shapes.specs.declared.Span.{Span}
 use Rattle.shapes.specs.Shape.{point_of}
 use Rattle.shapes.specs.Spans.{is_empty}
-use Rattle.thick_segment.specs.Segments.{spanOn}
+use Rattle.thick_segment.specs.Segments.{span_on}
 use Rattle.thick_segment.specs.declared.Rows.{Rows}
-use Rattle.thick_segment.specs.Rows.{drawnRows}
+use Rattle.thick_segment.specs.Rows.{drawn_rows}
 use Rattle.thick_segment.specs.Words.{HasRow, Holds}
 use Rattle.thick_segment.proofs.Laws.{span-ends}
 use Rattle.thick_segment.proofs.Lit.{holds_row, point-row, ends-lit, row-dark, row-bright}
 use Rattle.board.specs.declared.Board.{Board}
 use Rattle.board.specs.Runs.{lit, total, flat}
-use Rattle.board.specs.Boards.{boardOf, answer_of, told, toldTo, over}
-use Rattle.board_laws.specs.Histories.{covered, runsIn}
+use Rattle.board.specs.Boards.{board_of, answer_of, told, told_to, over}
+use Rattle.board_laws.specs.Histories.{covered, runs_in}
 use Rattle.board_laws.proofs.Offers.{live_of}
-use Rattle.route_joins.specs.Joins.{segmentAt, segmentCount}
+use Rattle.route_joins.specs.Joins.{segment_at, segment_count}
 use Rattle.route_joins.proofs.Near.{joins-exactly}
 use Rattle.route.specs.declared.RowRange.{RowRange}
-use Rattle.route.specs.Joined.{joinsOf}
-use Rattle.route.specs.Rows.{ends, offerAll, boardOn}
-use Rattle.route.specs.Words.{spansOn, Inside, Drawn}
-use Rattle.route.specs.Answers.{drawRefusal, rowsAnswer, noListing, listingOf, refusalOn, answerOn, listOn, rowAnswer, rowTo}
+use Rattle.route.specs.Joined.{joins_of}
+use Rattle.route.specs.Rows.{ends, offer_all, board_on}
+use Rattle.route.specs.Words.{spans_on, Inside, Drawn}
+use Rattle.route.specs.Answers.{draw_refusal, rows_answer, no_listing, listing_of, refusal_on, answer_on, list_on, row_answer, row_to}
 use Rattle.route.proofs.AllRows.{rows-bounds}
 use Rattle.route.proofs.Drawn.{row-draws}
 use Rattle.route.proofs.Offers.{offer-none, offer-empty}
@@ -45,7 +45,7 @@ use Rattle.route.proofs.Refused.{draw-none}
 use Rattle.route.proofs.Told.{row_told}
 
 -- spans that are all empty light nothing
-none-offered : (b : Board) (at : ℕ → Span) (left i : ℕ) → ((d : ℕ) → d < left → is_empty (at (i + d)) ≡ true) → offerAll b (list_from at i left) ≡ answer_of 0 b
+none-offered : (b : Board) (at : ℕ → Span) (left i : ℕ) → ((d : ℕ) → d < left → is_empty (at (i + d)) ≡ true) → offer_all b (list_from at i left) ≡ answer_of 0 b
 unfolding list_from
 none-offered b at zero i all = offer-none b
 none-offered b at (suc left) i all =
@@ -54,8 +54,8 @@ none-offered b at (suc left) i all =
     ∙ none-offered b at left (suc i) (λ d h. let on : suc i + d ≡ i + suc d = omega arith in rw on (all (suc d) (omega arith)))
 
 -- a fresh board has no run to list
-fresh-listed : (row : ℤ) (out : List ℤ) → (told (boardOf row []) (length out) ≡ record { refusal = 0; count = 0; total = pos 0 }) × (toldTo (boardOf row []) out ≡ out)
-unfolding told toldTo over total flat
+fresh-listed : (row : ℤ) (out : List ℤ) → (told (board_of row []) (length out) ≡ record { refusal = 0; count = 0; total = pos 0 }) × (told_to (board_of row []) out ≡ out)
+unfolding told told_to over total flat
 fresh-listed row out = (rw (live_of row [], le-leb 0 (length out) (omega arith)), rw (live_of row [], le-leb 0 (length out) (omega arith)))
 
 -- a span that is not empty covers its first column
@@ -74,60 +74,60 @@ first-covered at (suc n) i (suc d) h e =
 -- ---- a row has a drawn point exactly where some segment has a column on it
 
 module _ {closed : Bool} {cs : List ℤ} {w row : ℤ} where
-  pub drawn-lit : (d : Drawn closed cs w row) → is_empty (spanOn (segmentAt closed cs w d.place) row) ≡ false
-  drawn-lit d = row-bright (segmentAt closed cs w d.place) row d.lit
+  pub drawn-lit : (d : Drawn closed cs w row) → is_empty (span_on (segment_at closed cs w d.place) row) ≡ false
+  drawn-lit d = row-bright (segment_at closed cs w d.place) row d.lit
 
-  pub lit-drawn : (i : ℕ) → i < segmentCount closed cs → is_empty (spanOn (segmentAt closed cs w i) row) ≡ false → Drawn closed cs w row
+  pub lit-drawn : (i : ℕ) → i < segment_count closed cs → is_empty (span_on (segment_at closed cs w i) row) ≡ false → Drawn closed cs w row
   lit-drawn i h some =
-      let s = segmentAt closed cs w i in
-      record { place = i; placed = h; lit = record { point = point_of (spanOn s row).start row; among = (span-ends s row some).0; on_row = refl } }
+      let s = segment_at closed cs w i in
+      record { place = i; placed = h; lit = record { point = point_of (span_on s row).start row; among = (span-ends s row some).0; on_row = refl } }
 
 -- where it does the entry lists a run, unless the row is refused
-module _ (limits : Limits) (closed : Bool) (cs : List ℤ) (w row : ℤ) (out : List ℤ) (free : (rowAnswer limits closed cs w row (length out)).refusal ≡ 0) where
-  pub drawn-listed : Drawn closed cs w row → 0 < (rowAnswer limits closed cs w row (length out)).count
-  unfolding spansOn runsIn lit
-  drawn-listed d = by (rowAnswer limits closed cs w row (length out)).count refl
+module _ (limits : Limits) (closed : Bool) (cs : List ℤ) (w row : ℤ) (out : List ℤ) (free : (row_answer limits closed cs w row (length out)).refusal ≡ 0) where
+  pub drawn-listed : Drawn closed cs w row → 0 < (row_answer limits closed cs w row (length out)).count
+  unfolding spans_on runs_in lit
+  drawn-listed d = by (row_answer limits closed cs w row (length out)).count refl
     where
       column : ℤ
-      column = (spanOn (segmentAt closed cs w d.place) row).start
+      column = (span_on (segment_at closed cs w d.place) row).start
 
-      bright : lit (runsIn (rowAnswer limits closed cs w row (length out)).count (rowTo limits closed cs w row out)) column ≡ true
+      bright : lit (runs_in (row_answer limits closed cs w row (length out)).count (row_to limits closed cs w row out)) column ≡ true
       bright =
           (row_told limits closed cs w row out free).lights column
-          ∙ rw (zero-add d.place) at (first-covered (λ k. spanOn (segmentAt closed cs w k) row) (segmentCount closed cs) 0 d.place d.placed (rw (zero-add d.place) (drawn-lit d)))
+          ∙ rw (zero-add d.place) at (first-covered (λ k. span_on (segment_at closed cs w k) row) (segment_count closed cs) 0 d.place d.placed (rw (zero-add d.place) (drawn-lit d)))
 
-      by : (n : ℕ) → (rowAnswer limits closed cs w row (length out)).count ≡ n → 0 < n
+      by : (n : ℕ) → (row_answer limits closed cs w row (length out)).count ≡ n → 0 < n
       by zero e = absurd (clash (rw e at bright) refl)
       by (suc n) e = omega arith
 
 -- ---- the rows of a route that nothing refuses
 
-module _ (limits : Limits) (closed : Bool) (cs : List ℤ) (w : ℤ) (free : drawRefusal limits closed cs w ≡ 0) where
+module _ (limits : Limits) (closed : Bool) (cs : List ℤ) (w : ℤ) (free : draw_refusal limits closed cs w ≡ 0) where
   abbrev rows : RowRange
-  rows = rowsAnswer limits closed cs w
+  rows = rows_answer limits closed cs w
 
   -- the rows of each segment are among them
-  segment-inside : {i : ℕ} {row : ℤ} → i < segmentCount closed cs → HasRow (drawnRows (segmentAt closed cs w i)) row → Inside rows row
+  segment-inside : {i : ℕ} {row : ℤ} → i < segment_count closed cs → HasRow (drawn_rows (segment_at closed cs w i)) row → Inside rows row
   segment-inside {i} h on = let b = rows-bounds limits closed cs w free (omega (arith, h)) in record { some = b.some; among = holds_row (b.holds i h) on }
 
   -- wherever a drawn line has a point, the row is one of them
   pub drawn-inside : {row : ℤ} → Drawn closed cs w row → Inside rows row
-  drawn-inside d = segment-inside d.placed (rw d.lit.on_row at (point-row (segmentAt closed cs w d.place) d.lit.among))
+  drawn-inside d = segment-inside d.placed (rw d.lit.on_row at (point-row (segment_at closed cs w d.place) d.lit.among))
 
   -- the first and the last have one
-  module _ (some : 0 < segmentCount closed cs) where
+  module _ (some : 0 < segment_count closed cs) where
     pub first-drawn : Drawn closed cs w rows.first
     first-drawn =
         let m = (rows-bounds limits closed cs w free some).first-met in
-        record { place = m.at; placed = m.inside; lit = rw (m.is, zero-add m.at) (ends-lit (segmentAt closed cs w m.at)).first-lit }
+        record { place = m.at; placed = m.inside; lit = rw (m.is, zero-add m.at) (ends-lit (segment_at closed cs w m.at)).first_lit }
 
     pub last-drawn : Drawn closed cs w rows.last
     last-drawn =
         let m = (rows-bounds limits closed cs w free some).last-met in
-        record { place = m.at; placed = m.inside; lit = rw (m.is, zero-add m.at) (ends-lit (segmentAt closed cs w m.at)).last-lit }
+        record { place = m.at; placed = m.inside; lit = rw (m.is, zero-add m.at) (ends-lit (segment_at closed cs w m.at)).last_lit }
 
     -- so they are the least: others outside of which no segment has a column begin no later, and end no earlier
-    pub rows-least : (r : Rows) → ((row : ℤ) → (HasRow r row → ⊥) → (i : ℕ) → i < segmentCount closed cs → is_empty (spanOn (segmentAt closed cs w i) row) ≡ true) → Holds r (ends rows)
+    pub rows-least : (r : Rows) → ((row : ℤ) → (HasRow r row → ⊥) → (i : ℕ) → i < segment_count closed cs → is_empty (span_on (segment_at closed cs w i) row) ≡ true) → Holds r (ends rows)
     rows-least r dark = record { from = (between first-drawn).0; to = (between last-drawn).1 }
       where
         between : {row : ℤ} → Drawn closed cs w row → (r.first ≤ℤ row) × (row ≤ℤ r.last)
@@ -139,20 +139,20 @@ module _ (limits : Limits) (closed : Bool) (cs : List ℤ) (w : ℤ) (free : dra
 
   module _ {row : ℤ} (off : Inside rows row → ⊥) where
     -- no segment has a column there
-    pub outside-empty : {i : ℕ} → i < segmentCount closed cs → is_empty (spanOn (segmentAt closed cs w i) row) ≡ true
-    outside-empty {i} h = row-dark (segmentAt closed cs w i) row (λ on. off (segment-inside h on))
+    pub outside-empty : {i : ℕ} → i < segment_count closed cs → is_empty (span_on (segment_at closed cs w i) row) ≡ true
+    outside-empty {i} h = row-dark (segment_at closed cs w i) row (λ on. off (segment-inside h on))
 
     -- so its board is the fresh one
-    pub outside-board : boardOn (joinsOf limits.corner closed cs w) row ≡ answer_of 0 (boardOf row [])
-    unfolding spansOn
+    pub outside-board : board_on (joins_of limits.corner closed cs w) row ≡ answer_of 0 (board_of row [])
+    unfolding spans_on
     outside-board =
         let a = (draw-none limits closed cs w).0 free in
         row-draws limits.corner a.0 ((joins-exactly limits.corner closed cs w).1 a.1) row
-        ∙ none-offered (boardOf row []) (λ k. spanOn (segmentAt closed cs w k) row) (segmentCount closed cs) 0 (λ d h. rw (zero-add d) (outside-empty h))
+        ∙ none-offered (board_of row []) (λ k. span_on (segment_at closed cs w k) row) (segment_count closed cs) 0 (λ d h. rw (zero-add d) (outside-empty h))
 
     -- and the entry lists no run, whatever list is lent
-    pub outside-listed : Within row limits.corner → (out : List ℤ) → (rowAnswer limits closed cs w row (length out) ≡ noListing 0 0) × (rowTo limits closed cs w row out ≡ out)
-    unfolding rowAnswer rowTo answerOn listOn refusalOn
+    pub outside-listed : Within row limits.corner → (out : List ℤ) → (row_answer limits closed cs w row (length out) ≡ no_listing 0 0) × (row_to limits closed cs w row out ≡ out)
+    unfolding row_answer row_to answer_on list_on refusal_on
     outside-listed inside out =
         let fresh = fresh-listed row out in
-        (rw (free, within-true inside, outside-board) (ap listingOf fresh.0), rw (free, within-true inside, outside-board) fresh.1)
+        (rw (free, within-true inside, outside-board) (ap listing_of fresh.0), rw (free, within-true inside, outside-board) fresh.1)

@@ -17,8 +17,8 @@ use Rattle.thick_segment.specs.Rows.{around}
 use Rattle.thick_segment.proofs.Lit.{drawn-rows-near, rows-ordered}
 use Rattle.route.specs.declared.Joins.{Joins}
 use Rattle.route.specs.declared.RowRange.{RowRange}
-use Rattle.route.specs.Joined.{Kept, segmentsIn, segmentIn}
-use Rattle.route.specs.Rows.{range_of, ends, withRows, withAll, drawnIn, rowsIn, RowsNear, rowCount, rowAt}
+use Rattle.route.specs.Joined.{Kept, segments_in, segment_in}
+use Rattle.route.specs.Rows.{range_of, ends, with_rows, with_all, drawn_in, rows_in, RowsNear, row_count, row_at}
 use Rattle.route.proofs.Kept.{segment-near}
 
 -- ---- rows widened by those of segments
@@ -28,34 +28,34 @@ abbrev Fits : ℕ → Rows → Type 0
 Fits k r = RowsNear k (range_of r)
 
 module _ {k : ℕ} where
-  with-near : {range : RowRange} {r : Rows} → RowsNear k range → Fits k r → RowsNear k (withRows range r)
-  unfolding withRows around
+  with-near : {range : RowRange} {r : Rows} → RowsNear k range → Fits k r → RowsNear k (with_rows range r)
+  unfolding with_rows around
   with-near {range} {r} near fits = by range.some
     where
       by : (t : Bool) → RowsNear k (cond t (range_of (around (ends range) r)) (range_of r))
       by true =
           record {
             ordered = omega (linear, (lesser-le range.first r.first).0, (le-greater range.last r.last).0, near.ordered);
-            first-near = within-lesser near.first-near fits.first-near;
-            last-near = within-greater near.last-near fits.last-near;
+            first_near = within-lesser near.first_near fits.first_near;
+            last_near = within-greater near.last_near fits.last_near;
           }
       by false = fits
 
-  all_near : (drawnAt : ℕ → Rows) (i left : ℕ) {range : RowRange} → ((d : ℕ) → d < left → Fits k (drawnAt (i + d))) → RowsNear k range → RowsNear k (withAll range (list_from drawnAt i left))
-  unfolding withAll list_from
-  all_near drawnAt i zero all near = near
-  all_near drawnAt i (suc left) all near =
+  all_near : (drawn_at : ℕ → Rows) (i left : ℕ) {range : RowRange} → ((d : ℕ) → d < left → Fits k (drawn_at (i + d))) → RowsNear k range → RowsNear k (with_all range (list_from drawn_at i left))
+  unfolding with_all list_from
+  all_near drawn_at i zero all near = near
+  all_near drawn_at i (suc left) all near =
       let here : i + 0 ≡ i = omega arith in
-      all_near drawnAt (suc i) left (λ d h. let on : suc i + d ≡ i + suc d = omega arith in rw on (all (suc d) (omega arith))) (with-near near (rw here at (all 0 (omega arith))))
+      all_near drawn_at (suc i) left (λ d h. let on : suc i + d ≡ i + suc d = omega arith in rw on (all (suc d) (omega arith))) (with-near near (rw here at (all 0 (omega arith))))
 
-  pub rows-near : {route : Joins} → Kept k route → RowsNear k (rowsIn route)
-  unfolding rowsIn
+  pub rows-near : {route : Joins} → Kept k route → RowsNear k (rows_in route)
+  unfolding rows_in
   rows-near {route} kept =
-      all_near (drawnIn route) 0 (segmentsIn route)
+      all_near (drawn_in route) 0 (segments_in route)
       (λ i h.
-      let near = drawn-rows-near (segmentIn route i) (segment-near kept h) in
-      rw (zero-add i) (record { ordered = rows-ordered (segmentIn route i); first-near = near.first-near; last-near = near.last-near }))
-      (record { ordered = omega linear; first-near = record { bound = omega arith }; last-near = record { bound = omega arith } })
+      let near = drawn-rows-near (segment_in route i) (segment-near kept h) in
+      rw (zero-add i) (record { ordered = rows-ordered (segment_in route i); first_near = near.first_near; last_near = near.last_near }))
+      (record { ordered = omega linear; first_near = record { bound = omega arith }; last_near = record { bound = omega arith } })
 
 -- ---- the rows between
 
@@ -69,8 +69,8 @@ module _ {k : ℕ} {rows : RowRange} (near : RowsNear k rows) where
 
   pub height-small : Within height bound
   height-small =
-      let a = near.first-near.bound in
-      let b = near.last-near.bound in
+      let a = near.first_near.bound in
+      let b = near.last_near.bound in
       let d = diff rows.last rows.first in
       let e = sum (rows.last -ℤ rows.first) (pos 1) in
       record { bound = abs-le height (omega (arith, a, b, d, e, abs-parts rows.first, abs-parts rows.last)) (omega (arith, a, b, d, e, abs-parts rows.first, abs-parts rows.last)) }
@@ -81,8 +81,8 @@ module _ {k : ℕ} {rows : RowRange} (near : RowsNear k rows) where
   pub height-counts : T (non_neg height)
   height-counts = not_negative height-above
 
-  pub count_small : rowCount rows ≤ bound
-  unfolding rowCount
+  pub count_small : row_count rows ≤ bound
+  unfolding row_count
   count_small = by rows.some
     where
       by : (t : Bool) → cond t (nat_abs height) 0 ≤ bound
@@ -90,15 +90,15 @@ module _ {k : ℕ} {rows : RowRange} (near : RowsNear k rows) where
       by false = omega arith
 
   -- a row at a place lies between the first and the last
-  pub row_within : {i : ℕ} → i < rowCount rows → Within (rowAt rows i) k
-  unfolding rowCount rowAt
+  pub row_within : {i : ℕ} → i < row_count rows → Within (row_at rows i) k
+  unfolding row_count row_at
   row_within {i} = by rows.some
     where
       by : (t : Bool) → i < cond t (nat_abs height) 0 → Within (rows.first +ℤ pos i) k
       by false h = absurd (omega arith)
       by true h =
-          let a = near.first-near.bound in
-          let b = near.last-near.bound in
+          let a = near.first_near.bound in
+          let b = near.last_near.bound in
           let d = diff rows.last rows.first in
           let e = sum (rows.last -ℤ rows.first) (pos 1) in
           let f = sum rows.first (pos i) in
@@ -110,8 +110,8 @@ module _ {k : ℕ} {rows : RowRange} (near : RowsNear k rows) where
           record { bound = abs-le (rows.first +ℤ pos i) (omega (arith, a, b, d, e, f, o, p, q, r, n)) (omega (arith, a, b, d, e, f, o, p, q, r, n)) }
 
   -- it does, and every row between them is at a place
-  pub row-between : rows.some ≡ true → {i : ℕ} → i < rowCount rows → (rows.first ≤ℤ rowAt rows i) × (rowAt rows i ≤ℤ rows.last)
-  unfolding rowCount rowAt
+  pub row-between : rows.some ≡ true → {i : ℕ} → i < row_count rows → (rows.first ≤ℤ row_at rows i) × (row_at rows i ≤ℤ rows.last)
+  unfolding row_count row_at
   row-between some {i} h =
       let few : i < nat_abs height = rw some at h in
       let d = diff rows.last rows.first in
@@ -121,8 +121,8 @@ module _ {k : ℕ} {rows : RowRange} (near : RowsNear k rows) where
       let n = none_below height-above in
       (omega (linear, f), omega (linear, few, d, e, f, r, n))
 
-  pub place_of : rows.some ≡ true → {y : ℤ} → rows.first ≤ℤ y → y ≤ℤ rows.last → (nat_abs (y -ℤ rows.first) < rowCount rows) × (rowAt rows (nat_abs (y -ℤ rows.first)) ≡ y)
-  unfolding rowCount rowAt
+  pub place_of : rows.some ≡ true → {y : ℤ} → rows.first ≤ℤ y → y ≤ℤ rows.last → (nat_abs (y -ℤ rows.first) < row_count rows) × (row_at rows (nat_abs (y -ℤ rows.first)) ≡ y)
+  unfolding row_count row_at
   place_of some {y} low high =
       let i = nat_abs (y -ℤ rows.first) in
       let a = abs-parts (y -ℤ rows.first) in
@@ -135,10 +135,10 @@ module _ {k : ℕ} {rows : RowRange} (near : RowsNear k rows) where
 
 -- ---- how many rows there are
 
-pub count-some : (rows : RowRange) → rows.some ≡ true → rowCount rows ≡ nat_abs ((rows.last -ℤ rows.first) +ℤ pos 1)
-unfolding rowCount
+pub count-some : (rows : RowRange) → rows.some ≡ true → row_count rows ≡ nat_abs ((rows.last -ℤ rows.first) +ℤ pos 1)
+unfolding row_count
 count-some rows e = rw e
 
-pub count_none : (rows : RowRange) → rows.some ≡ false → rowCount rows ≡ 0
-unfolding rowCount
+pub count_none : (rows : RowRange) → rows.some ≡ false → row_count rows ≡ 0
+unfolding row_count
 count_none rows e = rw e

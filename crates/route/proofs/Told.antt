@@ -14,18 +14,18 @@ use Rattle.whole.proofs.Columns.{count_same}
 use Rattle.shapes.specs.declared.limits.Limits.{Limits}
 use Rattle.board.specs.declared.Board.{Board}
 use Rattle.board.specs.Runs.{lit, total}
-use Rattle.board.specs.Boards.{Sound, live, listing, notListed, over, told, toldTo, listed, listedTo}
+use Rattle.board.specs.Boards.{Sound, live, listing, not_listed, over, told, told_to, listed, listed_to}
 use Rattle.board.proofs.Sound.{sound-iff}
-use Rattle.board_laws.specs.Histories.{Event, covered, boardAfter, runsAfter, spansAfter, runsIn, columns, Demand3}
+use Rattle.board_laws.specs.Histories.{Event, covered, board_after, runs_after, spans_after, runs_in, columns, Demand3}
 use Rattle.board_laws.proofs.Demand.{demand-3}
 use Rattle.board_laws.proofs.Refused.{list-zero}
-use Rattle.route_joins.specs.Joins.{routeBend}
+use Rattle.route_joins.specs.Joins.{route_bend}
 use Rattle.route_joins.proofs.Near.{joins-exactly}
 use Rattle.route.specs.declared.Listing.{Listing}
-use Rattle.route.specs.Joined.{joinsOf}
-use Rattle.route.specs.Rows.{boardOn}
-use Rattle.route.specs.Words.{spansOn, offering, RowTold}
-use Rattle.route.specs.Answers.{drawRefusal, refusalOn, rowRefusal, noListing, listingOf, answerOn, listOn, rowAnswer, rowTo}
+use Rattle.route.specs.Joined.{joins_of}
+use Rattle.route.specs.Rows.{board_on}
+use Rattle.route.specs.Words.{spans_on, offering, RowTold}
+use Rattle.route.specs.Answers.{draw_refusal, refusal_on, row_refusal, no_listing, listing_of, answer_on, list_on, row_answer, row_to}
 use Rattle.shapes.proofs.Choices.{or-none}
 use Rattle.route.proofs.Drawn.{drawn-sound, row-covered}
 use Rattle.route.proofs.Chains.{kept-route}
@@ -37,31 +37,31 @@ listed-told : {k : ℕ} {b : Board} (n : ℕ) → Sound k b → listed k b n ≡
 unfolding listed
 listed-told {k} {b} n sound = rw ((sound-iff k b).1 sound)
 
-listed-told-to : {k : ℕ} {b : Board} (out : List ℤ) → Sound k b → listedTo k b out ≡ toldTo b out
-unfolding listedTo
+listed-told-to : {k : ℕ} {b : Board} (out : List ℤ) → Sound k b → listed_to k b out ≡ told_to b out
+unfolding listed_to
 listed-told-to {k} {b} out sound = rw ((sound-iff k b).1 sound)
 
 -- ---- of a row that is not refused
 
-module _ (limits : Limits) (closed : Bool) (cs : List ℤ) (w row : ℤ) (free : rowRefusal limits closed cs w row ≡ 0) where
+module _ (limits : Limits) (closed : Bool) (cs : List ℤ) (w row : ℤ) (free : row_refusal limits closed cs w row ≡ 0) where
   inside : Within row limits.corner
   inside = ((row-none limits closed cs w row).0 free).1.0
 
-  demand : Demand3 limits.corner row (offering (spansOn closed cs w row))
-  demand = demand-3 limits.corner row inside (offering (spansOn closed cs w row))
+  demand : Demand3 limits.corner row (offering (spans_on closed cs w row))
+  demand = demand-3 limits.corner row inside (offering (spans_on closed cs w row))
 
   -- what the accepted spans cover is what all spans cover
-  union : (x : ℤ) → covered (spansAfter limits.corner row (offering (spansOn closed cs w row))) x ≡ covered (spansOn closed cs w row) x
+  union : (x : ℤ) → covered (spans_after limits.corner row (offering (spans_on closed cs w row))) x ≡ covered (spans_on closed cs w row) x
   union =
       let z = (row-none limits closed cs w row).0 free in
       let a = (draw-none limits closed cs w).0 z.0 in
       row-covered limits.corner a.0 ((joins-exactly limits.corner closed cs w).1 a.1) row inside z.1.1
 
   -- the total of its runs is the number of columns that its segments' spans cover
-  pub row-columns : total (live (boardOn (joinsOf limits.corner closed cs w) row).board) ≡ pos (columns limits.corner (covered (spansOn closed cs w row)))
+  pub row-columns : total (live (board_on (joins_of limits.corner closed cs w) row).board) ≡ pos (columns limits.corner (covered (spans_on closed cs w row)))
   row-columns =
       ap (λ b. total (live b)) (none-reached limits closed cs w row free) ∙ demand.pixels
-      ∙ ap pos (count_same (covered (spansAfter limits.corner row (offering (spansOn closed cs w row)))) (covered (spansOn closed cs w row)) (neg_ℤ (pos limits.corner)) (2 * limits.corner + 1) (λ x l. union x))
+      ∙ ap pos (count_same (covered (spans_after limits.corner row (offering (spans_on closed cs w row)))) (covered (spans_on closed cs w row)) (neg_ℤ (pos limits.corner)) (2 * limits.corner + 1) (λ x l. union x))
 
 -- ---- of the lent list
 
@@ -70,28 +70,28 @@ module _ (limits : Limits) (closed : Bool) (cs : List ℤ) (w row : ℤ) (out : 
   k = limits.corner
 
   abbrev d : ℕ
-  d = drawRefusal limits closed cs w
+  d = draw_refusal limits closed cs w
 
   abbrev on : ℕ
-  on = refusalOn k (joinsOf k closed cs w) row
+  on = refusal_on k (joins_of k closed cs w) row
 
   abbrev drawn : Board
-  drawn = (boardOn (joinsOf k closed cs w) row).board
+  drawn = (board_on (joins_of k closed cs w) row).board
 
   abbrev history : List Event
-  history = offering (spansOn closed cs w row)
+  history = offering (spans_on closed cs w row)
 
   abbrev b : Board
-  b = boardAfter k row history
+  b = board_after k row history
 
   -- ---- not refused
 
-  module _ (e : (rowAnswer limits closed cs w row (length out)).refusal ≡ 0) where
-    none : (rowRefusal limits closed cs w row ≡ 0) × (2 * length (live drawn) ≤ length out)
+  module _ (e : (row_answer limits closed cs w row (length out)).refusal ≡ 0) where
+    none : (row_refusal limits closed cs w row ≡ 0) × (2 * length (live drawn) ≤ length out)
     none = (answer-none limits closed cs w row (length out)).0 e
 
     parts : (d ≡ 0) × (on ≡ 0)
-    unfolding rowRefusal
+    unfolding row_refusal
     parts = (or-none d on).0 none.0
 
     sound : Sound k drawn
@@ -100,19 +100,19 @@ module _ (limits : Limits) (closed : Bool) (cs : List ℤ) (w row : ℤ) (out : 
     same : drawn ≡ b
     same = none-reached limits closed cs w row none.0
 
-    answer-is : rowAnswer limits closed cs w row (length out) ≡ listingOf (listed k b (length out))
-    unfolding rowAnswer answerOn
-    answer-is = rw (eq-eqb d 0 parts.0, eq-eqb on 0 parts.1) (ap listingOf (sym (listed-told (length out) sound) ∙ ap (λ c. listed k c (length out)) same))
+    answer-is : row_answer limits closed cs w row (length out) ≡ listing_of (listed k b (length out))
+    unfolding row_answer answer_on
+    answer-is = rw (eq-eqb d 0 parts.0, eq-eqb on 0 parts.1) (ap listing_of (sym (listed-told (length out) sound) ∙ ap (λ c. listed k c (length out)) same))
 
-    list-is : rowTo limits closed cs w row out ≡ listedTo k b out
-    unfolding rowTo listOn
-    list-is = rw (eq-eqb d 0 parts.0, eq-eqb on 0 parts.1) (sym (listed-told-to out sound) ∙ ap (λ c. listedTo k c out) same)
+    list-is : row_to limits closed cs w row out ≡ listed_to k b out
+    unfolding row_to list_on
+    list-is = rw (eq-eqb d 0 parts.0, eq-eqb on 0 parts.1) (sym (listed-told-to out sound) ∙ ap (λ c. listed_to k c out) same)
 
     pub row_told : RowTold limits closed cs w row out
     row_told =
         let demand = demand limits closed cs w row none.0 in
         let room = (list-zero k b (length out)).1 (rw same at sound, rw same at none.1) in
-        let written : runsIn (rowAnswer limits closed cs w row (length out)).count (rowTo limits closed cs w row out) ≡ runsAfter k row history = rw (answer-is, list-is) (demand.written out room) in
+        let written : runs_in (row_answer limits closed cs w row (length out)).count (row_to limits closed cs w row out) ≡ runs_after k row history = rw (answer-is, list-is) (demand.written out room) in
         let count = ap (λ l. l.count) answer-is ∙ demand.counted out room in
         record {
           counted = count ∙ ap length (sym written);
@@ -125,19 +125,19 @@ module _ (limits : Limits) (closed : Bool) (cs : List ℤ) (w row : ℤ) (out : 
   -- ---- refused
 
   abbrev answer : Listing
-  answer = rowAnswer limits closed cs w row (length out)
+  answer = row_answer limits closed cs w row (length out)
 
-  told-refused : (t : Bool) → let a = listingOf (cond t (listing drawn) (notListed 8)) in a.refusal ≢ 0 → (a ≡ noListing a.refusal a.bend) × (cond t (over out (live drawn)) out ≡ out)
+  told-refused : (t : Bool) → let a = listing_of (cond t (listing drawn) (not_listed 8)) in a.refusal ≢ 0 → (a ≡ no_listing a.refusal a.bend) × (cond t (over out (live drawn)) out ≡ out)
   told-refused true some = absurd (some refl)
   told-refused false some = (refl, refl)
 
   -- the number and what comes with 5 alone, and the list as it was
-  pub row-refused : answer.refusal ≢ 0 → (answer ≡ noListing answer.refusal answer.bend) × (rowTo limits closed cs w row out ≡ out)
-  unfolding rowAnswer rowTo answerOn listOn told toldTo
+  pub row-refused : answer.refusal ≢ 0 → (answer ≡ no_listing answer.refusal answer.bend) × (row_to limits closed cs w row out ≡ out)
+  unfolding row_answer row_to answer_on list_on told told_to
   row-refused = by (eqb d 0) (eqb on 0)
     where
-      by : (t u : Bool) → let a = cond t (cond u (listingOf (told drawn (length out))) (noListing on 0)) (noListing d (routeBend limits closed cs w)) in
-          a.refusal ≢ 0 → (a ≡ noListing a.refusal a.bend) × (cond t (cond u (toldTo drawn out) out) out ≡ out)
+      by : (t u : Bool) → let a = cond t (cond u (listing_of (told drawn (length out))) (no_listing on 0)) (no_listing d (route_bend limits closed cs w)) in
+          a.refusal ≢ 0 → (a ≡ no_listing a.refusal a.bend) × (cond t (cond u (told_to drawn out) out) out ≡ out)
       by true true some = told-refused (leb (2 * length (live drawn)) (length out)) some
       by true false some = (refl, refl)
       by false u some = (refl, refl)

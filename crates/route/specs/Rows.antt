@@ -4,29 +4,29 @@ use Rattle.std.specs.Prelude.{true, false, cond, List, [], ◌∷◌, ℕ, eqb, 
 use Rattle.whole.specs.Number.{Within}
 use Rattle.whole.specs.Places.{list_from}
 use Rattle.shapes.specs.declared.Span.{Span}
-use Rattle.shapes.specs.Refusals.{orElse}
+use Rattle.shapes.specs.Refusals.{or_else}
 use Rattle.thick_segment.specs.declared.Rows.{Rows}
-use Rattle.thick_segment.specs.Segments.{spanOn}
-use Rattle.thick_segment.specs.Rows.{rows_from, around, drawnRows}
+use Rattle.thick_segment.specs.Segments.{span_on}
+use Rattle.thick_segment.specs.Rows.{rows_from, around, drawn_rows}
 use Rattle.board.specs.declared.Board.{Board}
 use Rattle.board.specs.declared.Answer.{Answer}
-use Rattle.board.specs.Boards.{boardOf, answer_of, added}
+use Rattle.board.specs.Boards.{board_of, answer_of, added}
 use Rattle.route.specs.declared.Joins.{Joins}
 use Rattle.route.specs.declared.RowRange.{RowRange}
-use Rattle.route.specs.Joined.{segmentsIn, segmentIn}
+use Rattle.route.specs.Joined.{segments_in, segment_in}
 
 -- ---- the board of a row
 
 -- spans offered one after the other, up to the first that there is no room for
-unfoldable pub offerAll : Board → List Span → Answer
-offerAll b [] = answer_of 0 b
-offerAll b (s ∷ ss) = let a = added b s in cond (eqb a.refusal 0) (offerAll a.board ss) a
+unfoldable pub offer_all : Board → List Span → Answer
+offer_all b [] = answer_of 0 b
+offer_all b (s ∷ ss) = let a = added b s in cond (eqb a.refusal 0) (offer_all a.board ss) a
 
-abbrev pub spanIn : Joins → ℤ → ℕ → Span
-spanIn route row k = spanOn (segmentIn route k) row
+abbrev pub span_in : Joins → ℤ → ℕ → Span
+span_in route row k = span_on (segment_in route k) row
 
-unfoldable pub boardOn : Joins → ℤ → Answer
-boardOn route row = offerAll (boardOf row []) (list_from (spanIn route row) 0 (segmentsIn route))
+unfoldable pub board_on : Joins → ℤ → Answer
+board_on route row = offer_all (board_of row []) (list_from (span_in route row) 0 (segments_in route))
 
 -- ---- the rows
 
@@ -41,41 +41,41 @@ abbrev pub ends : RowRange → Rows
 ends range = rows_from range.first range.last
 
 -- rows widened by those of one segment more, and of several
-unfoldable pub withRows : RowRange → Rows → RowRange
-withRows range r = cond range.some (range_of (around (ends range) r)) (range_of r)
+unfoldable pub with_rows : RowRange → Rows → RowRange
+with_rows range r = cond range.some (range_of (around (ends range) r)) (range_of r)
 
-unfoldable pub withAll : RowRange → List Rows → RowRange
-withAll range [] = range
-withAll range (r ∷ rs) = withAll (withRows range r) rs
+unfoldable pub with_all : RowRange → List Rows → RowRange
+with_all range [] = range
+with_all range (r ∷ rs) = with_all (with_rows range r) rs
 
-abbrev pub drawnIn : Joins → ℕ → Rows
-drawnIn route k = drawnRows (segmentIn route k)
+abbrev pub drawn_in : Joins → ℕ → Rows
+drawn_in route k = drawn_rows (segment_in route k)
 
-unfoldable pub rowsIn : Joins → RowRange
-rowsIn route = withAll (no_rows 0 0) (list_from (drawnIn route) 0 (segmentsIn route))
+unfoldable pub rows_in : Joins → RowRange
+rows_in route = with_all (no_rows 0 0) (list_from (drawn_in route) 0 (segments_in route))
 
 -- what a loop over rows asks
 pub record RowsNear (k : ℕ) (rows : RowRange) : Type 0 where
   pub ordered : rows.first ≤ℤ rows.last
-  pub first-near : Within rows.first k
-  pub last-near : Within rows.last k
+  pub first_near : Within rows.first k
+  pub last_near : Within rows.last k
 
-unfoldable pub rowCount : RowRange → ℕ
-rowCount rows = cond rows.some (nat_abs ((rows.last -ℤ rows.first) +ℤ pos 1)) 0
+unfoldable pub row_count : RowRange → ℕ
+row_count rows = cond rows.some (nat_abs ((rows.last -ℤ rows.first) +ℤ pos 1)) 0
 
-unfoldable pub rowAt : RowRange → ℕ → ℤ
-rowAt rows i = rows.first +ℤ pos i
+unfoldable pub row_at : RowRange → ℕ → ℤ
+row_at rows i = rows.first +ℤ pos i
 
 -- ---- the first refusal of all rows
 
 -- the first of several numbers that is not 0
 unfoldable pub first_of : List ℕ → ℕ
 first_of [] = 0
-first_of (n ∷ ns) = orElse n (first_of ns)
+first_of (n ∷ ns) = or_else n (first_of ns)
 
 -- 8 where the board of the row at a place has no room
 abbrev pub room_at : Joins → RowRange → ℕ → ℕ
-room_at route rows i = (boardOn route (rowAt rows i)).refusal
+room_at route rows i = (board_on route (row_at rows i)).refusal
 
-unfoldable pub rowsRefusal : Joins → RowRange → ℕ
-rowsRefusal route rows = first_of (list_from (room_at route rows) 0 (rowCount rows))
+unfoldable pub rows_refusal : Joins → RowRange → ℕ
+rows_refusal route rows = first_of (list_from (room_at route rows) 0 (row_count rows))

@@ -1,13 +1,13 @@
 //! The joins of a route, worked out once, and what is drawn of them on a row.
 ghost use Rattle.std.specs.Prelude.{◌≡◌, ◌≤◌, ◌<◌, length};
-ghost use Rattle.whole.specs.Places.{passedWith};
-ghost use Rattle.shapes.specs.Limits.{strokeLimit, lineLimit, routePoints, Roomy};
+ghost use Rattle.whole.specs.Places.{passed_with};
+ghost use Rattle.shapes.specs.Limits.{stroke_limit, line_limit, route_points, Roomy};
 ghost use Rattle.shapes.specs.Strokes.{Thin};
-ghost use Rattle.coordinates.specs.Points.{pointCount};
+ghost use Rattle.coordinates.specs.Points.{point_count};
 ghost use Rattle.coordinates.specs.Refusal.{AllWithin};
-ghost use Rattle.route.specs.Joined.{noJoin, Kept, joinsOf};
-ghost use Rattle.route.specs.Rows.{boardOn, withRows, rowsIn, RowsNear, rowCount, rowAt, rowsRefusal};
-ghost use Rattle.route.specs.Answers.{noListing, noJoins, preparedOf, answerOn, listOn};
+ghost use Rattle.route.specs.Joined.{no_join, Kept, joins_of};
+ghost use Rattle.route.specs.Rows.{board_on, with_rows, rows_in, RowsNear, row_count, row_at, rows_refusal};
+ghost use Rattle.route.specs.Answers.{no_listing, no_joins, prepared_of, answer_on, list_on};
 
 use crate::{Joins, Listing, Prepared, RowRange};
 use board::Answer;
@@ -27,7 +27,7 @@ use whole::inner::within;
 
 /// What stands in an array of joins beyond the joins.
 fn no_join() -> Join
-    ensures { result ≡ noJoin }
+    ensures { result ≡ no_join }
 {
     let zero = Point { x: 0, y: 0 };
     let corners = Corners {
@@ -45,7 +45,7 @@ fn no_join() -> Join
 
 /// The joins of no route.
 fn no_joins() -> Joins
-    ensures { result ≡ noJoins }
+    ensures { result ≡ no_joins }
 {
     let none = no_join();
     Joins {
@@ -59,8 +59,8 @@ fn no_joins() -> Joins
 /// How many joins, from the first on, have their corners within the limit: `counted` of those before place `i`, and one more if all
 /// of those have and the join at that place `passes`.
 fn near_with(counted: usize, i: usize, passes: bool) -> usize
-    requires { i < routePoints }
-    ensures { result ≡ passedWith counted i passes }
+    requires { i < route_points }
+    ensures { result ≡ passed_with counted i passes }
 {
     if passes {
         if counted == i {
@@ -73,10 +73,10 @@ fn near_with(counted: usize, i: usize, passes: bool) -> usize
 
 /// The joins of a route, and how many of them, from the first on, have all their corners within the limit.
 pub fn joins_of(coordinates: &[i64], width: i64, closed: bool, limit: u32) -> Joins
-    requires all_within { AllWithin strokeLimit coordinates.now }
+    requires all_within { AllWithin stroke_limit coordinates.now }
     requires thin { Thin width }
-    requires coordinates_bound { pointCount coordinates.now ≤ routePoints }
-    ensures { result ≡ joinsOf limit closed coordinates.now width }
+    requires coordinates_bound { point_count coordinates.now ≤ route_points }
+    ensures { result ≡ joins_of limit closed coordinates.now width }
 {
     let count = join_count(coordinates);
     let none = no_join();
@@ -100,7 +100,7 @@ pub fn joins_of(coordinates: &[i64], width: i64, closed: bool, limit: u32) -> Jo
 /// The joins of a route, or its refusal, 1 to 4, 12 or 5, for the entries: every one of them begins so.
 pub fn prepare(coordinates: &[i64], width: i64, closed: bool, limits: Limits) -> Prepared
     requires { Roomy limits }
-    ensures { result ≡ preparedOf limits closed coordinates.now width }
+    ensures { result ≡ prepared_of limits closed coordinates.now width }
 {
     let number = refusal(coordinates, width, closed, limits.point);
     if number != 0 {
@@ -128,8 +128,8 @@ pub fn prepare(coordinates: &[i64], width: i64, closed: bool, limits: Limits) ->
 /// The board of a row: the spans of the segments, offered in their order to a fresh board. 8, with the board as it was before, at
 /// the first span that it has no room for.
 pub fn row_board(route: Joins, row: i64) -> Answer
-    requires { Kept lineLimit route }
-    ensures { result ≡ boardOn route row }
+    requires { Kept line_limit route }
+    ensures { result ≡ board_on route row }
 {
     let count = route.count;
     let closed = route.closed;
@@ -155,7 +155,7 @@ pub fn row_board(route: Joins, row: i64) -> Answer
 
 /// An answer that lists nothing; `bend` comes with 5.
 pub fn refused(number: u64, bend: usize) -> Listing
-    ensures { result ≡ noListing number bend }
+    ensures { result ≡ no_listing number bend }
 {
     Listing {
         refusal: number,
@@ -167,9 +167,9 @@ pub fn refused(number: u64, bend: usize) -> Listing
 
 /// The runs of a row, as `row` lists them once it has the joins, with rows from `-limit` to `limit`.
 pub fn row_of(route: Joins, row: i64, limit: u32, out: &mut [i64]) -> Listing
-    requires kept { Kept lineLimit route }
-    requires limit_le_line_limit { limit ≤ lineLimit }
-    ensures { (result ≡ answerOn limit route row (length out.old)) × (out.new ≡ listOn limit route row out.old) }
+    requires kept { Kept line_limit route }
+    requires limit_le_line_limit { limit ≤ line_limit }
+    ensures { (result ≡ answer_on limit route row (length out.old)) × (out.new ≡ list_on limit route row out.old) }
 {
     if within(row, limit) {
         let answer = row_board(route, row);
@@ -189,7 +189,7 @@ pub fn row_of(route: Joins, row: i64, limit: u32, out: &mut [i64]) -> Listing
 
 /// The rows of a route so far, with those of one more segment.
 fn with_rows(range: RowRange, rows: Rows) -> RowRange
-    ensures { result ≡ withRows range rows }
+    ensures { result ≡ with_rows range rows }
 {
     if range.some {
         let before = Rows {
@@ -216,8 +216,8 @@ fn with_rows(range: RowRange, rows: Rows) -> RowRange
 
 /// The rows of a route: from the first to the last row of the lines that are drawn of its segments.
 pub fn rows_of(route: Joins) -> RowRange
-    requires { Kept lineLimit route }
-    ensures { result ≡ rowsIn route }
+    requires { Kept line_limit route }
+    ensures { result ≡ rows_in route }
 {
     let count = route.count;
     let closed = route.closed;
@@ -242,8 +242,8 @@ pub fn rows_of(route: Joins) -> RowRange
 
 /// How many rows there are.
 pub fn row_count(rows: RowRange) -> usize
-    requires { RowsNear lineLimit rows }
-    ensures { result ≡ rowCount rows }
+    requires { RowsNear line_limit rows }
+    ensures { result ≡ row_count rows }
 {
     if rows.some {
         let height = rows.last - rows.first + 1;
@@ -254,18 +254,18 @@ pub fn row_count(rows: RowRange) -> usize
 
 /// The row at place `i`, from the first on.
 pub fn row_at(rows: RowRange, i: usize) -> i64
-    requires rows_near { RowsNear lineLimit rows }
-    requires i_bound { i < rowCount rows }
-    ensures { result ≡ rowAt rows i }
+    requires rows_near { RowsNear line_limit rows }
+    requires i_bound { i < row_count rows }
+    ensures { result ≡ row_at rows i }
 {
     rows.first + i as i64
 }
 
 /// The refusal of the first row that has no room for its runs, or 0.
 pub fn rows_refusal(route: Joins, rows: RowRange) -> u64
-    requires kept { Kept lineLimit route }
-    requires rows_near { RowsNear lineLimit rows }
-    ensures { result ≡ rowsRefusal route rows }
+    requires kept { Kept line_limit route }
+    requires rows_near { RowsNear line_limit rows }
+    ensures { result ≡ rows_refusal route rows }
 {
     let n = row_count(rows);
     let mut i: usize = 0;

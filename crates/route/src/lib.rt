@@ -1,7 +1,7 @@
 //! A route's rows: the columns that its segments light.
 ghost use Rattle.std.specs.Prelude.{◌≡◌, length};
-ghost use Rattle.shapes.specs.Limits.{panel as panelLimits};
-ghost use Rattle.route.specs.Answers.{rowsAnswer, wholeAnswer, rowAnswer, rowTo};
+ghost use Rattle.shapes.specs.Limits.{panel as panel_limits};
+ghost use Rattle.route.specs.Answers.{rows_answer, whole_answer, row_answer, row_to};
 
 pub mod inner; // inner.rt: the joins of a route, worked out once, and what is drawn of them
 
@@ -61,7 +61,7 @@ pub struct Listing {
 /// one, 3 for a width outside 0 to 64, 4 for a coordinate beyond 511, 12 for two consecutive points that are equal, of a closed
 /// route also the last and the first, 5 for a join with a corner beyond 4,095, at the position of the first in the order of the walk.
 pub fn rows(coordinates: &[i64], width: i64, closed: bool) -> RowRange
-    ensures { result ≡ rowsAnswer panelLimits closed coordinates.now width }
+    ensures { result ≡ rows_answer panel_limits closed coordinates.now width }
 {
     let route = prepare(coordinates, width, closed, panel());
     if route.refusal != 0 {
@@ -79,7 +79,7 @@ pub fn rows(coordinates: &[i64], width: i64, closed: bool) -> RowRange
 /// What a route is refused with as a whole, or 0: as `rows`, and then 8 if one of its rows needs more than 32 runs after some
 /// segment.
 pub fn refusal(coordinates: &[i64], width: i64, closed: bool) -> Verdict
-    ensures { result ≡ wholeAnswer panelLimits closed coordinates.now width }
+    ensures { result ≡ whole_answer panel_limits closed coordinates.now width }
 {
     let route = prepare(coordinates, width, closed, panel());
     if route.refusal != 0 {
@@ -99,7 +99,7 @@ pub fn refusal(coordinates: &[i64], width: i64, closed: bool) -> Verdict
 /// with 8 if the row needs more than 32 runs after some segment, or `out` has fewer than two numbers for each run. Refused, `out`
 /// is as it was.
 pub fn row(coordinates: &[i64], width: i64, closed: bool, row: i64, out: &mut [i64]) -> Listing
-    ensures { (result ≡ rowAnswer panelLimits closed coordinates.now width row (length out.old)) × (out.new ≡ rowTo panelLimits closed coordinates.now width row out.old) }
+    ensures { (result ≡ row_answer panel_limits closed coordinates.now width row (length out.old)) × (out.new ≡ row_to panel_limits closed coordinates.now width row out.old) }
 {
     let route = prepare(coordinates, width, closed, panel());
     if route.refusal != 0 {

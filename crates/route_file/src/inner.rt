@@ -1,8 +1,8 @@
 //! The form of a route file, and its numbers, for who knows that it is right.
 ghost use Rattle.std.specs.Prelude.{◌≡◌, ◌+◌, ◌*◌, ◌≤◌, ◌<◌, length};
 ghost use Rattle.std.proofs.lemmas.List.Edits.{sets};
-ghost use Rattle.route_file.specs.Numbers.{numberAt, signedAt, signedFrom};
-ghost use Rattle.route_file.specs.Form.{routeCount, entryAt, isEntryFormed, areFormed, isFormed};
+ghost use Rattle.route_file.specs.Numbers.{number_at, signed_at, signed_from};
+ghost use Rattle.route_file.specs.Form.{route_count, entry_at, is_entry_formed, are_formed, is_formed};
 
 /// A file has at most 16 routes.
 const ROUTES: usize = 16;
@@ -19,7 +19,7 @@ pub struct Entry {
 /// The two-byte number at a place of a file, low byte first.
 pub fn number_at(file: &[u8], at: usize) -> u16
     requires { at + 1 < length file.now }
-    ensures { result ≡ numberAt file.now at }
+    ensures { result ≡ number_at file.now at }
 {
     file[at] as u16 + 256 * (file[at + 1] as u16)
 }
@@ -27,7 +27,7 @@ pub fn number_at(file: &[u8], at: usize) -> u16
 /// The same as a signed number: from 32,768 on it is below 0.
 pub fn signed_at(file: &[u8], at: usize) -> i64
     requires { at + 1 < length file.now }
-    ensures { result ≡ signedAt file.now at }
+    ensures { result ≡ signed_at file.now at }
 {
     let number = number_at(file, at);
     if number < 32768 {
@@ -39,7 +39,7 @@ pub fn signed_at(file: &[u8], at: usize) -> i64
 /// How many routes a file says that it has.
 pub fn count_of(file: &[u8]) -> usize
     requires { 4 ≤ length file.now }
-    ensures { result ≡ routeCount file.now }
+    ensures { result ≡ route_count file.now }
 {
     number_at(file, 0) as usize
 }
@@ -47,7 +47,7 @@ pub fn count_of(file: &[u8]) -> usize
 /// The entry of route `k`, from 0 on.
 pub fn entry_at(file: &[u8], k: usize) -> Entry
     requires { 12 + 8 * k ≤ length file.now }
-    ensures { result ≡ entryAt file.now k }
+    ensures { result ≡ entry_at file.now k }
 {
     let at = 4 + 8 * k;
     let offset = number_at(file, at);
@@ -64,7 +64,7 @@ pub fn entry_at(file: &[u8], k: usize) -> Entry
 
 /// Whether an entry's closed is 0 or 1, and its points lie between the end of the entries and the file's end.
 fn is_entry_formed(entry: Entry, end: usize, length: usize) -> bool
-    ensures { result ≡ isEntryFormed end length entry }
+    ensures { result ≡ is_entry_formed end length entry }
 {
     if 1 < entry.closed {
         return false;
@@ -79,7 +79,7 @@ fn is_entry_formed(entry: Entry, end: usize, length: usize) -> bool
 /// Whether the first `n` entries are formed.
 fn are_entries_formed(file: &[u8], n: usize, end: usize) -> bool
     requires { 4 + 8 * n ≤ length file.now }
-    ensures { result ≡ areFormed end file.now 0 n }
+    ensures { result ≡ are_formed end file.now 0 n }
 {
     let mut k: usize = 0;
     while k < n {
@@ -94,7 +94,7 @@ fn are_entries_formed(file: &[u8], n: usize, end: usize) -> bool
 
 /// Whether the file's form is right.
 pub fn is_formed(file: &[u8]) -> bool
-    ensures { result ≡ isFormed file.now }
+    ensures { result ≡ is_formed file.now }
 {
     let length = file.len();
     if length < 4 {
@@ -119,7 +119,7 @@ pub fn is_formed(file: &[u8]) -> bool
 pub fn write_numbers(file: &[u8], from: usize, n: usize, out: &mut [i64])
     requires n_in_bounds { from + 2 * n ≤ length file.now }
     requires n_in_bounds_2 { n ≤ length out.old }
-    ensures { out.new ≡ sets out.old 0 (signedFrom file.now from n) }
+    ensures { out.new ≡ sets out.old 0 (signed_from file.now from n) }
 {
     let mut i: usize = 0;
     while i < n {

@@ -1,6 +1,6 @@
 //! The route file: whether its form is right, and the points, the width and the closed flag of each of its routes.
 ghost use Rattle.std.specs.Prelude.{◌≡◌, length};
-ghost use Rattle.route_file.specs.Answers.{counted, described, pointed, pointedTo};
+ghost use Rattle.route_file.specs.Answers.{counted, described, pointed, pointed_to};
 
 pub mod inner; // inner.rt: the form, and what is read once it is known to be right
 
@@ -84,7 +84,7 @@ pub fn entry(file: &[u8], k: usize) -> Described
 /// that were; the rest of `out` keeps its content. A route that the file does not have has no points. 9 if the file's form is
 /// wrong; 8 if `out` has fewer than two numbers for each point. Refused, `out` is as it was.
 pub fn points(file: &[u8], k: usize, out: &mut [i64]) -> Pointed
-    ensures { (result ≡ pointed file.now k (length out.old)) × (out.new ≡ pointedTo file.now k out.old) }
+    ensures { (result ≡ pointed file.now k (length out.old)) × (out.new ≡ pointed_to file.now k out.old) }
 {
     if !is_formed(file) {
         return Pointed {

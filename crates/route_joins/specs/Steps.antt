@@ -1,14 +1,14 @@
 -- What a step of a walk answers, and where it leaves the walk. A walk is its segments by their place, and how many there are.
 use Rattle.std.specs.Prelude.{◌≡◌, Bool, cond, List, ℕ, zero, suc, ◌+◌, ◌≤◌, ◌<◌, eqb, ltb, ℤ}
-use Rattle.shapes.specs.Refusals.{cornerRefused}
+use Rattle.shapes.specs.Refusals.{corner_refused}
 use Rattle.shapes.specs.declared.limits.Limits.{Limits}
 use Rattle.shapes.specs.declared.Offset.{Offset}
 use Rattle.line_join.specs.declared.Joined.TheVariants.{Made}
-use Rattle.line_join.specs.Answers.{JoinValues, joinValues, noJoinValues}
+use Rattle.line_join.specs.Answers.{JoinValues, join_values, no_join_values}
 use Rattle.thick_segment.specs.declared.Segment.{Segment}
-use Rattle.thick_segment.specs.Segments.{SegmentNear, isSegmentNear, farBend}
-use Rattle.coordinates.specs.Refusal.{routeRefusal}
-use Rattle.route_joins.specs.Joins.{segmentCount, segmentOf}
+use Rattle.thick_segment.specs.Segments.{SegmentNear, is_segment_near, far_bend}
+use Rattle.coordinates.specs.Refusal.{route_refusal}
+use Rattle.route_joins.specs.Joins.{segment_count, segment_of}
 use Rattle.route_joins.specs.declared.Step.{Step}
 use Rattle.route_joins.specs.declared.Step.TheVariants.{Drawn, End, Refused}
 
@@ -23,55 +23,55 @@ pub record StepValues : Type 0 where
   pub start : JoinValues
   pub end : JoinValues
 
-unfoldable pub stepValues : Step → StepValues
-stepValues (Drawn s) = record { refusal = 0; bend = 0; found = 1; start = joinValues (Made s.start); end = joinValues (Made s.end) }
-stepValues End = record { refusal = 0; bend = 0; found = 2; start = noJoinValues; end = noJoinValues }
-stepValues (Refused n b) = record { refusal = n; bend = b; found = 0; start = noJoinValues; end = noJoinValues }
+unfoldable pub step_values : Step → StepValues
+step_values (Drawn s) = record { refusal = 0; bend = 0; found = 1; start = join_values (Made s.start); end = join_values (Made s.end) }
+step_values End = record { refusal = 0; bend = 0; found = 2; start = no_join_values; end = no_join_values }
+step_values (Refused n b) = record { refusal = n; bend = b; found = 0; start = no_join_values; end = no_join_values }
 
 -- ---- one step, k being the corners' limit
 
 -- 5 where a join of the segment has a corner beyond it, with the position of the first that has
 unfoldable pub checked : ℕ → Segment → StepValues
-checked k s = cond (isSegmentNear k s) (stepValues (Drawn s)) (stepValues (Refused cornerRefused (farBend k s)))
+checked k s = cond (is_segment_near k s) (step_values (Drawn s)) (step_values (Refused corner_refused (far_bend k s)))
 
 -- `refusal` is that of the list and the width, or 0
-unfoldable pub stepAt : ℕ → ℕ → ℕ → (ℕ → Segment) → ℕ → StepValues
-stepAt k refusal count segment place =
-    cond (eqb refusal 0) (cond (ltb place count) (checked k (segment place)) (stepValues End)) (stepValues (Refused refusal 0))
+unfoldable pub step_at : ℕ → ℕ → ℕ → (ℕ → Segment) → ℕ → StepValues
+step_at k refusal count segment place =
+    cond (eqb refusal 0) (cond (ltb place count) (checked k (segment place)) (step_values End)) (step_values (Refused refusal 0))
 
 -- of a route, open or closed: the offset is a closed walk's, an open one has None always
-unfoldable pub routeStep : Limits → Bool → List ℤ → ℤ → Offset → ℕ → StepValues
-routeStep limits closed cs w o place =
-    stepAt limits.corner (routeRefusal limits.point closed cs w) (segmentCount closed cs) (segmentOf closed cs w o) place
+unfoldable pub route_step : Limits → Bool → List ℤ → ℤ → Offset → ℕ → StepValues
+route_step limits closed cs w o place =
+    step_at limits.corner (route_refusal limits.point closed cs w) (segment_count closed cs) (segment_of closed cs w o) place
 
 -- what a step answers at any place, v being the answer. One of the four holds, and no two do: so v is settled
 pub record StepTold (k refusal count : ℕ) (segment : ℕ → Segment) (place : ℕ) (v : StepValues) : Type 0 where
   -- the list or the width is refused
-  pub refused : 0 < refusal → v ≡ stepValues (Refused refusal 0)
+  pub refused : 0 < refusal → v ≡ step_values (Refused refusal 0)
   -- a place past the last segment is the end
-  pub past : refusal ≡ 0 → count ≤ place → v ≡ stepValues End
+  pub past : refusal ≡ 0 → count ≤ place → v ≡ step_values End
   -- the segment at the place
-  pub drawn : refusal ≡ 0 → place < count → SegmentNear k (segment place) → v ≡ stepValues (Drawn (segment place))
+  pub drawn : refusal ≡ 0 → place < count → SegmentNear k (segment place) → v ≡ step_values (Drawn (segment place))
   -- or 5 and the position of the first join with a corner beyond the limit
-  pub far : refusal ≡ 0 → place < count → (SegmentNear k (segment place) → ⊥) → v ≡ stepValues (Refused cornerRefused (farBend k (segment place)))
+  pub far : refusal ≡ 0 → place < count → (SegmentNear k (segment place) → ⊥) → v ≡ step_values (Refused corner_refused (far_bend k (segment place)))
 
 -- the walk moves on where a segment was answered, and nowhere else
-unfoldable pub placeFrom : StepValues → ℕ → ℕ
-placeFrom v place = cond (eqb v.found 1) (place + 1) place
+unfoldable pub place_from : StepValues → ℕ → ℕ
+place_from v place = cond (eqb v.found 1) (place + 1) place
 
 -- ---- many steps
 
 -- the walk after n steps
-unfoldable pub afterSteps : {W : Type 0} → (W → W) → W → ℕ → W
-afterSteps after walk zero = walk
-afterSteps after walk (suc n) = after (afterSteps after walk n)
+unfoldable pub after_steps : {W : Type 0} → (W → W) → W → ℕ → W
+after_steps after walk zero = walk
+after_steps after walk (suc n) = after (after_steps after walk n)
 
 -- a walk, segment by segment: what the steps from its first one on answer, where `answer` and `after` say what a step does
 pub record SegmentBySegment {W : Type 0} (k : ℕ) (answer : W → StepValues) (after : W → W) (begun : W) (count : ℕ) (segment : ℕ → Segment) : Type 0 where
   -- the i-th step answers the segment at place i
-  pub drawn : (i : ℕ) → i < count → ((j : ℕ) → j < i + 1 → SegmentNear k (segment j)) → answer (afterSteps after begun i) ≡ stepValues (Drawn (segment i))
+  pub drawn : (i : ℕ) → i < count → ((j : ℕ) → j < i + 1 → SegmentNear k (segment j)) → answer (after_steps after begun i) ≡ step_values (Drawn (segment i))
   -- after the last segment comes the end, for ever
-  pub ends : ((j : ℕ) → j < count → SegmentNear k (segment j)) → (m : ℕ) → answer (afterSteps after begun (count + m)) ≡ stepValues End
+  pub ends : ((j : ℕ) → j < count → SegmentNear k (segment j)) → (m : ℕ) → answer (after_steps after begun (count + m)) ≡ step_values End
   -- refused with 5 at a segment, it is refused with 5 for ever, and names the same bend
   pub refuses : (i : ℕ) → i < count → ((j : ℕ) → j < i → SegmentNear k (segment j)) → (SegmentNear k (segment i) → ⊥)
-      → (m : ℕ) → answer (afterSteps after begun (i + m)) ≡ stepValues (Refused cornerRefused (farBend k (segment i)))
+      → (m : ℕ) → answer (after_steps after begun (i + m)) ≡ step_values (Refused corner_refused (far_bend k (segment i)))

@@ -1,12 +1,12 @@
 //! The joins and the segments of a route, each by its place, and the step of every walk.
 ghost use Rattle.std.specs.Prelude.{◌≡◌, ◌<◌};
-ghost use Rattle.shapes.specs.Limits.{strokeLimit, Roomy};
+ghost use Rattle.shapes.specs.Limits.{stroke_limit, Roomy};
 ghost use Rattle.shapes.specs.Strokes.{Thin};
-ghost use Rattle.coordinates.specs.Points.{pointCount};
+ghost use Rattle.coordinates.specs.Points.{point_count};
 ghost use Rattle.coordinates.specs.Refusal.{AllWithin};
-ghost use Rattle.route_joins.specs.Joins.{Drawable, bendAt, openJoin, closedJoin, joinOn, joinCount, endPlace};
-ghost use Rattle.route_joins.specs.Joins.{segmentOf, segmentCount, nearJoins};
-ghost use Rattle.route_joins.specs.Steps.{stepValues, routeStep, placeFrom};
+ghost use Rattle.route_joins.specs.Joins.{Drawable, bend_at, open_join, closed_join, join_on, join_count, end_place};
+ghost use Rattle.route_joins.specs.Joins.{segment_of, segment_count, near_joins};
+ghost use Rattle.route_joins.specs.Steps.{step_values, route_step, place_from};
 
 use crate::{Placed, Step};
 use coordinates::inner::{place_after, place_before, point_at, refusal, segments_of};
@@ -30,10 +30,10 @@ fn bend_at(
     after: usize,
 ) -> Join
     requires drawable { Drawable coordinates.now width }
-    requires before_bound { before < pointCount coordinates.now }
-    requires i_bound { i < pointCount coordinates.now }
-    requires after_bound { after < pointCount coordinates.now }
-    ensures { result ≡ bendAt coordinates.now width offset before i after }
+    requires before_bound { before < point_count coordinates.now }
+    requires i_bound { i < point_count coordinates.now }
+    requires after_bound { after < point_count coordinates.now }
+    ensures { result ≡ bend_at coordinates.now width offset before i after }
 {
     let a = point_at(coordinates, before);
     let b = point_at(coordinates, i);
@@ -44,8 +44,8 @@ fn bend_at(
 /// The join at the point at place `i` of an open route; its position is not set yet.
 fn open_join(coordinates: &[i64], width: i64, i: usize) -> Join
     requires drawable { Drawable coordinates.now width }
-    requires i_bound { i < pointCount coordinates.now }
-    ensures { result ≡ openJoin coordinates.now width i }
+    requires i_bound { i < point_count coordinates.now }
+    ensures { result ≡ open_join coordinates.now width i }
 {
     if i == 0 {
         let a = point_at(coordinates, 0);
@@ -63,8 +63,8 @@ fn open_join(coordinates: &[i64], width: i64, i: usize) -> Join
 /// The join at the point at place `i` of a closed route; its position is not set yet.
 fn closed_join(coordinates: &[i64], width: i64, offset: Offset, i: usize) -> Join
     requires drawable { Drawable coordinates.now width }
-    requires i_bound { i < pointCount coordinates.now }
-    ensures { result ≡ closedJoin coordinates.now width offset i }
+    requires i_bound { i < point_count coordinates.now }
+    ensures { result ≡ closed_join coordinates.now width offset i }
 {
     let count = point_count(coordinates);
     if count + i == 2 {
@@ -81,8 +81,8 @@ fn closed_join(coordinates: &[i64], width: i64, offset: Offset, i: usize) -> Joi
 /// offset is a closed route's.
 pub fn join_on(coordinates: &[i64], width: i64, closed: bool, offset: Offset, i: usize) -> Join
     requires drawable { Drawable coordinates.now width }
-    requires i_bound { i < pointCount coordinates.now }
-    ensures { result ≡ joinOn closed coordinates.now width offset i }
+    requires i_bound { i < point_count coordinates.now }
+    ensures { result ≡ join_on closed coordinates.now width offset i }
 {
     if closed {
         return standing_at(closed_join(coordinates, width, offset, i), i);
@@ -92,7 +92,7 @@ pub fn join_on(coordinates: &[i64], width: i64, closed: bool, offset: Offset, i:
 
 /// How many joins a route has: one at each point; none where there is one point alone.
 pub fn join_count(coordinates: &[i64]) -> usize
-    ensures { result ≡ joinCount coordinates.now }
+    ensures { result ≡ join_count coordinates.now }
 {
     let count = point_count(coordinates);
     if 2 <= count {
@@ -104,7 +104,7 @@ pub fn join_count(coordinates: &[i64]) -> usize
 /// The place of the join at which the segment from place `k` of `count` ends.
 pub fn end_place(count: usize, closed: bool, k: usize) -> usize
     requires { k < count }
-    ensures { result ≡ endPlace closed count k }
+    ensures { result ≡ end_place closed count k }
 {
     if closed {
         return place_after(count, k);
@@ -114,7 +114,7 @@ pub fn end_place(count: usize, closed: bool, k: usize) -> usize
 
 /// How many segments a route has, open or closed: none of 0 or 1 points where it is open.
 pub fn segment_count(coordinates: &[i64], closed: bool) -> usize
-    ensures { result ≡ segmentCount closed coordinates.now }
+    ensures { result ≡ segment_count closed coordinates.now }
 {
     segments_of(point_count(coordinates), closed)
 }
@@ -128,8 +128,8 @@ pub fn segment_of(
     k: usize,
 ) -> Segment
     requires drawable { Drawable coordinates.now width }
-    requires k_bound { k < segmentCount closed coordinates.now }
-    ensures { result ≡ segmentOf closed coordinates.now width offset k }
+    requires k_bound { k < segment_count closed coordinates.now }
+    ensures { result ≡ segment_of closed coordinates.now width offset k }
 {
     let next = end_place(point_count(coordinates), closed, k);
     let start = join_on(coordinates, width, closed, offset, k);
@@ -140,9 +140,9 @@ pub fn segment_of(
 /// How many joins of a route, from the first on, have all their corners within `limit`: all of them, or the place of the first that
 /// has not, at which the route is refused with 5.
 pub fn near_joins(coordinates: &[i64], width: i64, closed: bool, limit: u32) -> usize
-    requires all_within { AllWithin strokeLimit coordinates.now }
+    requires all_within { AllWithin stroke_limit coordinates.now }
     requires thin { Thin width }
-    ensures { result ≡ nearJoins limit closed coordinates.now width }
+    ensures { result ≡ near_joins limit closed coordinates.now width }
 {
     let count = join_count(coordinates);
     let mut i: usize = 0;
@@ -169,8 +169,8 @@ pub fn step_at(
     limits: Limits,
 ) -> Placed
     requires { Roomy limits }
-    ensures answers { stepValues result.step ≡ routeStep limits closed coordinates.now width offset place }
-    ensures moves { result.place ≡ placeFrom (stepValues result.step) place }
+    ensures answers { step_values result.step ≡ route_step limits closed coordinates.now width offset place }
+    ensures moves { result.place ≡ place_from (step_values result.step) place }
 {
     let number = refusal(coordinates, width, closed, limits.point);
     if 0 < number {

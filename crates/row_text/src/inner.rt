@@ -1,12 +1,12 @@
 //! The lines of a file that is not refused.
 ghost use Rattle.std.specs.Prelude.{◌≡◌, ◌≤◌};
 ghost use Rattle.whole.specs.Number.{Within};
-ghost use Rattle.shapes.specs.Limits.{lineLimit, boardRuns, Roomy};
+ghost use Rattle.shapes.specs.Limits.{line_limit, board_runs, Roomy};
 ghost use Rattle.route_file.specs.Form.{Formed};
 ghost use Rattle.route.specs.Joined.{Kept};
-ghost use Rattle.route.specs.Rows.{RowsNear, boardOn, rowsRefusal};
-ghost use Rattle.route.specs.Answers.{wholeAnswer};
-ghost use Rattle.row_text.specs.Pixels.{litOn, litIn, routePixels, entryPixels, allPixels};
+ghost use Rattle.route.specs.Rows.{RowsNear, board_on, rows_refusal};
+ghost use Rattle.route.specs.Answers.{whole_answer};
+ghost use Rattle.row_text.specs.Pixels.{lit_on, lit_in, route_pixels, entry_pixels, all_pixels};
 
 use board::inner::total_of;
 use board::{Board, Run};
@@ -33,7 +33,7 @@ fn print_run(k: usize, row: i64, run: Run) {
 
 /// Prints the lines of a board's runs.
 fn print_runs(k: usize, board: Board)
-    requires { board.count ≤ boardRuns }
+    requires { board.count ≤ board_runs }
 {
     let n = board.count;
     let mut i: usize = 0;
@@ -46,10 +46,10 @@ fn print_runs(k: usize, board: Board)
 
 /// Prints the runs of a row that has room for them, and answers their pixels.
 fn print_row(k: usize, route: Joins, row: i64) -> i64
-    requires kept { Kept lineLimit route }
-    requires within { Within row lineLimit }
-    requires row_value { (boardOn route row).refusal ≡ 0 }
-    ensures { result ≡ litOn route row }
+    requires kept { Kept line_limit route }
+    requires within { Within row line_limit }
+    requires row_value { (board_on route row).refusal ≡ 0 }
+    ensures { result ≡ lit_on route row }
 {
     let board = row_board(route, row).board;
     print_runs(k, board);
@@ -58,10 +58,10 @@ fn print_row(k: usize, route: Joins, row: i64) -> i64
 
 /// Prints the runs of a route that has no refused row, rows ascending, and answers their pixels.
 fn print_rows(k: usize, route: Joins, rows: RowRange) -> i64
-    requires kept { Kept lineLimit route }
-    requires rows_near { RowsNear lineLimit rows }
-    requires rows_value { rowsRefusal route rows ≡ 0 }
-    ensures { result ≡ litIn route rows }
+    requires kept { Kept line_limit route }
+    requires rows_near { RowsNear line_limit rows }
+    requires rows_value { rows_refusal route rows ≡ 0 }
+    ensures { result ≡ lit_in route rows }
 {
     let n = row_count(rows);
     let mut sum = Sum { total: 0 };
@@ -85,7 +85,7 @@ fn print_refused(
     limits: Limits,
     verdict: Verdict,
 )
-    requires { verdict ≡ wholeAnswer limits closed coordinates.now width }
+    requires { verdict ≡ whole_answer limits closed coordinates.now width }
 {
     say_count(k as u64);
     say(b" ");
@@ -96,7 +96,7 @@ fn print_refused(
 /// Prints the lines of route `k`: its runs, or the one line of its refusal. Answers the pixels of the runs.
 fn print_route(k: usize, coordinates: &[i64], width: i64, closed: bool, limits: Limits) -> i64
     requires { Roomy limits }
-    ensures { result ≡ routePixels limits closed coordinates.now width }
+    ensures { result ≡ route_pixels limits closed coordinates.now width }
 {
     let route = prepare(coordinates, width, closed, limits);
     if route.refusal != 0 {
@@ -125,7 +125,7 @@ fn print_route(k: usize, coordinates: &[i64], width: i64, closed: bool, limits: 
 fn print_entry(file: &[u8], k: usize, limits: Limits) -> i64
     requires formed { Formed file.now }
     requires roomy { Roomy limits }
-    ensures { result ≡ entryPixels limits file.now k }
+    ensures { result ≡ entry_pixels limits file.now k }
 {
     let entry = route_file::entry(file, k);
     let width = entry.width;
@@ -138,7 +138,7 @@ fn print_entry(file: &[u8], k: usize, limits: Limits) -> i64
 pub fn print_routes(file: &[u8], limits: Limits) -> i64
     requires formed { Formed file.now }
     requires roomy { Roomy limits }
-    ensures { result ≡ allPixels limits file.now }
+    ensures { result ≡ all_pixels limits file.now }
 {
     let n = count_of(file);
     say(b"routes ");

@@ -1,8 +1,8 @@
 //! What the program `rows` prints of a route file. No contract can say what is written; but who prints knows how many pixels the
 //! runs have that are printed, and for that there is one.
 ghost use Rattle.std.specs.Prelude.{◌≡◌};
-ghost use Rattle.shapes.specs.Limits.{panel as panelLimits};
-ghost use Rattle.row_text.specs.Pixels.{filePixels};
+ghost use Rattle.shapes.specs.Limits.{panel as panel_limits};
+ghost use Rattle.row_text.specs.Pixels.{file_pixels};
 
 pub mod inner; // inner.rt: the lines of a file that is not refused
 
@@ -23,7 +23,7 @@ pub fn print_input() {
 /// Prints how many routes a file has; of each its runs, rows ascending, or its refusal, `k refused N`, and with 5 the position of the
 /// bend behind it, `k refused 5 P`; and the pixels of all printed runs, which it also answers. 9 if the file's form is wrong, or it has more than 65,535 bytes: `refused 9` alone is printed, and there are none.
 pub fn print_file(file: &[u8]) -> i64
-    ensures { result ≡ filePixels panelLimits file.now }
+    ensures { result ≡ file_pixels panel_limits file.now }
 {
     let counted = route_count(file);
     if counted.refusal != 0 {

@@ -6,15 +6,15 @@ use mathlib.Core.List.Memᴰ
 use mathlib.Core.List.{List, [], ◌∷◌, Memᴰ}
 use lib.IntN.{ℤ, pos, ◌+ℤ◌, ◌-ℤ◌}
 use lib.Signed.{lt_z, le_z}
-use Rattle.whole.specs.Number.{eqZ}
+use Rattle.whole.specs.Number.{eq_z}
 use Rattle.whole.proofs.Linear.{sum, diff}
-use Rattle.whole.proofs.Orders.{eqZ-refl, eqZ-no, ordered, eqZ-true, eqZ-false}
+use Rattle.whole.proofs.Orders.{eq_z-refl, eq_z-no, ordered, eq_z-true, eq_z-false}
 use Rattle.shapes.specs.declared.Point.{Point}
 use Rattle.shapes.specs.declared.Span.{Span}
 use Rattle.shapes.specs.Spans.{span_of, Covers, is_empty}
 use Rattle.shapes.proofs.Columns.{covers-some, covers-first, covers-last}
 use Rattle.scanline.specs.Spans.{extended}
-use Rattle.scanline.specs.Meeting.{seen, seenAll}
+use Rattle.scanline.specs.Meeting.{seen, seen_all}
 use Rattle.scanline.specs.Words.{Column, before, met_at, End, kept, came, Least}
 
 -- ---- one column more
@@ -53,19 +53,19 @@ extends s x = extends-by s x (le_z s.end s.start) (lt_z x s.start) (le_z s.end x
 -- a point that is not on the row changes nothing
 pub seen-off : (s : Span) (q : Point) → (q.y ≡ s.row → ⊥) → seen s q ≡ s
 unfolding seen
-seen-off s q off = rw (eqZ-no q.y s.row off)
+seen-off s q off = rw (eq_z-no q.y s.row off)
 
 pub seen-on : (s : Span) (q : Point) → q.y ≡ s.row → seen s q ≡ extended s q.x
 unfolding seen
-seen-on s q e = rw (e, eqZ-refl s.row)
+seen-on s q e = rw (e, eq_z-refl s.row)
 
 -- the point is on the row or not
-on-or-off : (s : Span) (q : Point) (t : Bool) → eqZ q.y s.row ≡ t → (q.y ≡ s.row) ⊎ (q.y ≡ s.row → ⊥)
-on-or-off s q true e = inl (eqZ-true q.y s.row e)
-on-or-off s q false e = inr (eqZ-false q.y s.row e)
+on-or-off : (s : Span) (q : Point) (t : Bool) → eq_z q.y s.row ≡ t → (q.y ≡ s.row) ⊎ (q.y ≡ s.row → ⊥)
+on-or-off s q true e = inl (eq_z-true q.y s.row e)
+on-or-off s q false e = inr (eq_z-false q.y s.row e)
 
 split : (s : Span) (q : Point) → (q.y ≡ s.row) ⊎ (q.y ≡ s.row → ⊥)
-split s q = on-or-off s q (eqZ q.y s.row) refl
+split s q = on-or-off s q (eq_z q.y s.row) refl
 
 record Sees (s : Span) (q : Point) (r : Span) : Type 0 where
   row : r.row ≡ s.row
@@ -112,8 +112,8 @@ column-on {s} {r} {q} {ps} {c} w (met_at p m on at) =
     (λ i. met_at p i (on ∙ sym w.row) at)
     (Memᴰ.cases_cons m)
 
-meets : (s : Span) (ps : List Point) → Meets s ps (seenAll s ps)
-unfolding seenAll
+meets : (s : Span) (ps : List Point) → Meets s ps (seen_all s ps)
+unfolding seen_all
 meets s [] = record { row = refl; holds = λ c h. held h; first = λ e. kept e refl; final = λ e. kept e refl }
   where
     held : {c : ℤ} → Column s [] c → Covers s c
@@ -142,10 +142,10 @@ end-final (came q m on at) = met_at q m on at
 pub covers-within : (r t : Span) (c : ℤ) → Covers t r.start → Covers t (r.end -ℤ pos 1) → Covers r c → Covers t c
 covers-within r t c p q h = omega (ordered, diff r.end (pos 1))
 
-pub seen-least : (s : Span) (ps : List Point) → Least s ps (seenAll s ps)
+pub seen-least : (s : Span) (ps : List Point) → Least s ps (seen_all s ps)
 seen-least s ps =
     let m = meets s ps in
-    let r = seenAll s ps in
+    let r = seen_all s ps in
     record {
       row = m.row;
       holds = m.holds;
@@ -157,12 +157,12 @@ seen-least s ps =
     }
 
 -- no point on the row: nothing changes
-pub seen_none : (s : Span) (ps : List Point) → ((q : Point) → Memᴰ q ps → q.y ≡ s.row → ⊥) → seenAll s ps ≡ s
-unfolding seenAll
+pub seen_none : (s : Span) (ps : List Point) → ((q : Point) → Memᴰ q ps → q.y ≡ s.row → ⊥) → seen_all s ps ≡ s
+unfolding seen_all
 seen_none s [] off = refl
 seen_none s (q ∷ ps) off =
     let here = seen-off s q (off q (Memᴰ.head refl)) in
-    ap (λ r. seenAll r ps) here ∙ seen_none s ps (λ p m. off p (Memᴰ.tail m))
+    ap (λ r. seen_all r ps) here ∙ seen_none s ps (λ p m. off p (Memᴰ.tail m))
 
 -- ---- fewer points that come to the same
 
@@ -183,17 +183,17 @@ spans-same r t c row some to back =
     span-is row (omega ordered) (omega ordered)
 
 -- some of the points do, where what they come to covers the columns of all on the row
-pub seen_same : (s : Span) (ps qs : List Point) (c : ℤ) → Covers (seenAll s qs) c → ((q : Point) → Memᴰ q qs → Memᴰ q ps) → ((q : Point) → Memᴰ q ps → q.y ≡ s.row → Covers (seenAll s qs) q.x) → seenAll s ps ≡ seenAll s qs
+pub seen_same : (s : Span) (ps qs : List Point) (c : ℤ) → Covers (seen_all s qs) c → ((q : Point) → Memᴰ q qs → Memᴰ q ps) → ((q : Point) → Memᴰ q ps → q.y ≡ s.row → Covers (seen_all s qs) q.x) → seen_all s ps ≡ seen_all s qs
 seen_same s ps qs c some among all =
     let p = seen-least s ps in
     let q = seen-least s qs in
-    let back = q.least (seenAll s ps) (λ c w. p.holds c (grown w)) in
-    spans-same (seenAll s ps) (seenAll s qs) c (p.row ∙ sym q.row) (back c some) (p.least (seenAll s qs) (λ c w. held w)) back
+    let back = q.least (seen_all s ps) (λ c w. p.holds c (grown w)) in
+    spans-same (seen_all s ps) (seen_all s qs) c (p.row ∙ sym q.row) (back c some) (p.least (seen_all s qs) (λ c w. held w)) back
   where
     grown : {c : ℤ} → Column s qs c → Column s ps c
     grown (before h) = before h
     grown (met_at q m on at) = met_at q (among q m) on at
 
-    held : {c : ℤ} → Column s ps c → Covers (seenAll s qs) c
+    held : {c : ℤ} → Column s ps c → Covers (seen_all s qs) c
     held {c} (before h) = (seen-least s qs).holds c (before h)
     held (met_at q m on at) = rw (← at) (all q m on)

@@ -19,8 +19,8 @@ use Rattle.shapes.specs.declared.Span.{Span}
 use Rattle.shapes.specs.Shape.{point_of, LineNear}
 use Rattle.shapes.proofs.Columns.{covers-some, covers-first}
 use Rattle.shapes.specs.Spans.{span_of, Covers, is_empty, SpanSound}
-use Rattle.scanline.specs.Spans.{touches, in_range, printedTouches, join, newSpan, tryExtended, tryTaken}
-use Rattle.bresenham.specs.Points.{linePoints}
+use Rattle.scanline.specs.Spans.{touches, in_range, printed_touches, join, new_span, try_extended, try_taken}
+use Rattle.bresenham.specs.Points.{line_points}
 use Rattle.bresenham.proofs.Lines.{line-columns, line-rows}
 use Rattle.scanline.specs.Meeting.{met}
 use Rattle.scanline.specs.Rows.{has_row}
@@ -32,16 +32,16 @@ use Rattle.scanline.proofs.Rows.{row-exactly, ends-within, met-contiguous}
 
 -- the span after is the least one that holds the span before and the columns of the line's points on its row, and its ends
 -- are such columns
-pub met-least : (s : Span) (l : Line) → Least s (linePoints l) (met s l)
+pub met-least : (s : Span) (l : Line) → Least s (line_points l) (met s l)
 unfolding met
-met-least s l = seen-least s (linePoints l)
+met-least s l = seen-least s (line_points l)
 
 -- those columns are contiguous (`met-contiguous`, in Rows.antt), so an empty span covers afterwards just the columns of the line's points on its row
 point-of : {s : Span} {ps : List Point} {e c : ℤ} → is_empty s ≡ true → End s e ps c → Memᴰ (point_of c s.row) ps
 point-of none (kept some is) = absurd (clash none some)
 point-of none (came q m on at) = Memᴰ.cast (rw (← at, ← on)) m
 
-pub met-covers : (s : Span) (l : Line) (c : ℤ) → is_empty s ≡ true → Covers (met s l) c ↔ Memᴰ (point_of c s.row) (linePoints l)
+pub met-covers : (s : Span) (l : Line) (c : ℤ) → is_empty s ≡ true → Covers (met s l) c ↔ Memᴰ (point_of c s.row) (line_points l)
 met-covers s l c none =
     let w = met-least s l in
     let r = met s l in (
@@ -51,12 +51,12 @@ met-covers s l c none =
       λ m. w.holds c (met_at (point_of c s.row) m refl refl),
     )
 
-met-none : (s : Span) (l : Line) → ((q : Point) → Memᴰ q (linePoints l) → q.y ≡ s.row → ⊥) → met s l ≡ s
+met-none : (s : Span) (l : Line) → ((q : Point) → Memᴰ q (line_points l) → q.y ≡ s.row → ⊥) → met s l ≡ s
 unfolding met
-met-none s l off = seen_none s (linePoints l) off
+met-none s l off = seen_none s (line_points l) off
 
 -- empty after exactly when empty before and no point is on the row
-pub met-empty : (s : Span) (l : Line) → (is_empty (met s l) ≡ true) ↔ ((is_empty s ≡ true) × ((q : Point) → Memᴰ q (linePoints l) → q.y ≡ s.row → ⊥))
+pub met-empty : (s : Span) (l : Line) → (is_empty (met s l) ≡ true) ↔ ((is_empty s ≡ true) × ((q : Point) → Memᴰ q (line_points l) → q.y ≡ s.row → ⊥))
 met-empty s l =
     let w = met-least s l in
     let r = met s l in (
@@ -87,28 +87,28 @@ covers-box {k} {c} h = within_of h.from (omega (ordered, sum (pos k) (pos 1)))
 pub met-sound : {k : ℕ} (s : Span) (l : Line) → LineNear k l → SpanSound k s → SpanSound k (met s l)
 met-sound {k} s l near sound = λ c h. covers-box ((met-least s l).least (box k) (λ c h. box-covers (column-within h)) c h)
   where
-    column-within : {c : ℤ} → Column s (linePoints l) c → Within c k
+    column-within : {c : ℤ} → Column s (line_points l) c → Within c k
     column-within {c} (before h) = sound c h
-    column-within (met_at q m on at) = rw (← at) (ends-within near.start-near.x-near near.end-near.x-near (line-columns l m))
+    column-within (met_at q m on at) = rw (← at) (ends-within near.start_near.x_near near.end_near.x_near (line-columns l m))
 
 -- ---- try_extend
 
 -- W6's order: an empty current span takes the other's start and end, whatever they are
-pub join-from-empty : (s o : Span) → is_empty s ≡ true → tryExtended s o ≡ record { joined = true; span = span_of s.row o.start o.end }
-unfolding tryExtended
+pub join-from-empty : (s o : Span) → is_empty s ≡ true → try_extended s o ≡ record { joined = true; span = span_of s.row o.start o.end }
+unfolding try_extended
 join-from-empty s o e = rw e
 
 -- an empty other changes nothing
-pub join-with-empty : (s o : Span) → is_empty s ≡ false → is_empty o ≡ true → tryExtended s o ≡ record { joined = true; span = s }
-unfolding tryExtended
+pub join-with-empty : (s o : Span) → is_empty s ≡ false → is_empty o ≡ true → try_extended s o ≡ record { joined = true; span = s }
+unfolding try_extended
 join-with-empty s o e f = rw (e, f)
 
-pub join-touching : (s o : Span) → is_empty s ≡ false → is_empty o ≡ false → touches s o ≡ true → tryExtended s o ≡ record { joined = true; span = join s o }
-unfolding tryExtended
+pub join-touching : (s o : Span) → is_empty s ≡ false → is_empty o ≡ false → touches s o ≡ true → try_extended s o ≡ record { joined = true; span = join s o }
+unfolding try_extended
 join-touching s o e f g = rw (e, f, g)
 
-pub join_apart : (s o : Span) → is_empty s ≡ false → is_empty o ≡ false → touches s o ≡ false → tryExtended s o ≡ record { joined = false; span = s }
-unfolding tryExtended
+pub join_apart : (s o : Span) → is_empty s ≡ false → is_empty o ≡ false → touches s o ≡ false → try_extended s o ≡ record { joined = false; span = s }
+unfolding try_extended
 join_apart s o e f g = rw (e, f, g)
 
 -- overlapping or adjacent exactly where no dark column lies between
@@ -125,8 +125,8 @@ touches-exactly s o = apart_by s o (le_z o.start s.end) (le_z s.start o.end) ref
 range-no : (a b x : ℤ) → (le_z a x ≡ true → le_z x b ≡ true → ⊥) → in_range a b x ≡ false
 range-no a b x h = else-false (in_range a b x) (λ e. h (and_left (le_z a x) (le_z x b) e) (and_right (le_z a x) (le_z x b) e))
 
-no-range : (s o : Span) → is_empty s ≡ false → is_empty o ≡ false → Apart s o → printedTouches s o ≡ false
-unfolding printedTouches is_empty
+no-range : (s o : Span) → is_empty s ≡ false → is_empty o ≡ false → Apart s o → printed_touches s o ≡ false
+unfolding printed_touches is_empty
 no-range s o a b apart =
     let ds = diff s.start (pos 1) in
     let de = diff s.end (pos 1) in
@@ -139,8 +139,8 @@ no-range s o a b apart =
       range-no (o.start -ℤ pos 1) o.end (s.end -ℤ pos 1) (λ p q. ⊎_elim (λ w. omega ordered) (λ w. omega ordered) apart),
     )
 
-printed-by : (s o : Span) (t u v : Bool) → le_z o.start s.end ≡ t → le_z s.start o.end ≡ u → le_z (s.start -ℤ pos 1) o.start ≡ v → is_empty s ≡ false → is_empty o ≡ false → printedTouches s o ≡ touches s o
-unfolding printedTouches touches is_empty
+printed-by : (s o : Span) (t u v : Bool) → le_z o.start s.end ≡ t → le_z s.start o.end ≡ u → le_z (s.start -ℤ pos 1) o.start ≡ v → is_empty s ≡ false → is_empty o ≡ false → printed_touches s o ≡ touches s o
+unfolding printed_touches touches is_empty
 printed-by s o true true true e f g a b = simp (g, e, f)
 printed-by s o true true false e f g a b =
     let here : le_z (o.start -ℤ pos 1) s.start ≡ true = omega (ordered, diff s.start (pos 1), diff o.start (pos 1)) in
@@ -150,7 +150,7 @@ printed-by s o true true false e f g a b =
 printed-by s o true false v e f g a b = no-range s o a b (inr (omega ordered)) ∙ sym (simp (e, f))
 printed-by s o false u v e f g a b = no-range s o a b (inl (omega ordered)) ∙ sym (simp e)
 
-pub touches-printed : (s o : Span) → is_empty s ≡ false → is_empty o ≡ false → printedTouches s o ≡ touches s o
+pub touches-printed : (s o : Span) → is_empty s ≡ false → is_empty o ≡ false → printed_touches s o ≡ touches s o
 touches-printed s o a b = printed-by s o (le_z o.start s.end) (le_z s.start o.end) (le_z (s.start -ℤ pos 1) o.start) refl refl refl a b
 
 -- the join of two that touch covers just what they cover
@@ -168,23 +168,23 @@ join-covers s o g c =
     let high = le-greater s.end o.end in
     (joined_to s o c (lt_z c s.start) (lt_z c s.end) refl refl a b, ⊎_elim (λ h. omega ordered) (λ h. omega ordered))
 
-no-by : (s o : Span) (a b t : Bool) → is_empty s ≡ a → is_empty o ≡ b → touches s o ≡ t → ((tryExtended s o).joined ≡ false) ↔ ((is_empty s ≡ false) × ((is_empty o ≡ false) × Apart s o))
+no-by : (s o : Span) (a b t : Bool) → is_empty s ≡ a → is_empty o ≡ b → touches s o ≡ t → ((try_extended s o).joined ≡ false) ↔ ((is_empty s ≡ false) × ((is_empty o ≡ false) × Apart s o))
 no-by s o true b t e f g = (λ h. absurd (clash refl (rw (join-from-empty s o e) at h)), λ w. absurd (clash e w.0))
 no-by s o false true t e f g = (λ h. absurd (clash refl (rw (join-with-empty s o e f) at h)), λ w. absurd (clash f w.1.0))
 no-by s o false false true e f g = (λ h. absurd (clash refl (rw (join-touching s o e f g) at h)), λ w. absurd (clash g ((touches-exactly s o).1 w.1.1)))
 no-by s o false false false e f g = (λ h. (e, (f, (touches-exactly s o).0 g)), λ w. rw (join_apart s o e f g))
 
 -- no exactly when neither is empty and a dark column lies between them
-pub join-no : (s o : Span) → ((tryExtended s o).joined ≡ false) ↔ ((is_empty s ≡ false) × ((is_empty o ≡ false) × Apart s o))
+pub join-no : (s o : Span) → ((try_extended s o).joined ≡ false) ↔ ((is_empty s ≡ false) × ((is_empty o ≡ false) × Apart s o))
 join-no s o = no-by s o (is_empty s) (is_empty o) (touches s o) refl refl refl
 
 -- then nothing changes
-pub no-stays : (s o : Span) → (tryExtended s o).joined ≡ false → (tryExtended s o).span ≡ s
+pub no-stays : (s o : Span) → (try_extended s o).joined ≡ false → (try_extended s o).span ≡ s
 no-stays s o h =
     let w = (join-no s o).0 h in
     ap (λ j. j.span) (join_apart s o w.0 w.1.0 ((touches-exactly s o).1 w.1.1))
 
-covers-by : (s o : Span) (c : ℤ) (a b t : Bool) → is_empty s ≡ a → is_empty o ≡ b → touches s o ≡ t → (tryExtended s o).joined ≡ true → Covers (tryExtended s o).span c ↔ (Covers s c ⊎ Covers o c)
+covers-by : (s o : Span) (c : ℤ) (a b t : Bool) → is_empty s ≡ a → is_empty o ≡ b → touches s o ≡ t → (try_extended s o).joined ≡ true → Covers (try_extended s o).span c ↔ (Covers s c ⊎ Covers o c)
 covers-by s o c true b t e f g h =
     rw (join-from-empty s o e) (λ w. inr (record { from = w.from; below = w.below }), ⊎_elim (λ w. absurd (clash e (covers-some s c w))) (λ w. record { from = w.from; below = w.below }))
 covers-by s o c false true t e f g h = rw (join-with-empty s o e f) (inl, ⊎_elim (λ w. w) (λ w. absurd (clash f (covers-some o c w))))
@@ -192,24 +192,24 @@ covers-by s o c false false true e f g h = rw (join-touching s o e f g) (join-co
 covers-by s o c false false false e f g h = absurd (clash h (ap (λ j. j.joined) (join_apart s o e f g)))
 
 -- else the span after covers just what the two covered
-pub joined-covers : (s o : Span) → (tryExtended s o).joined ≡ true → (c : ℤ) → Covers (tryExtended s o).span c ↔ (Covers s c ⊎ Covers o c)
+pub joined-covers : (s o : Span) → (try_extended s o).joined ≡ true → (c : ℤ) → Covers (try_extended s o).span c ↔ (Covers s c ⊎ Covers o c)
 joined-covers s o h c = covers-by s o c (is_empty s) (is_empty o) (touches s o) refl refl refl h
 
 -- ---- try_take: a span that is not empty is handed out once
 
-pub take-some : (s : Span) → is_empty s ≡ false → tryTaken s ≡ record { taken = true; span = s; rest = newSpan s.row }
-unfolding tryTaken
+pub take-some : (s : Span) → is_empty s ≡ false → try_taken s ≡ record { taken = true; span = s; rest = new_span s.row }
+unfolding try_taken
 take-some s e = rw e
 
-pub take_none : (s : Span) → is_empty s ≡ true → tryTaken s ≡ record { taken = false; span = newSpan (pos 0); rest = s }
-unfolding tryTaken
+pub take_none : (s : Span) → is_empty s ≡ true → try_taken s ≡ record { taken = false; span = new_span (pos 0); rest = s }
+unfolding try_taken
 take_none s e = rw e
 
-once_by : (s : Span) (t : Bool) → is_empty s ≡ t → (tryTaken (tryTaken s).rest).taken ≡ false
+once_by : (s : Span) (t : Bool) → is_empty s ≡ t → (try_taken (try_taken s).rest).taken ≡ false
 unfolding is_empty
 once_by s true e = rw (take_none s e, take_none s e)
-once_by s false e = rw (take-some s e, take_none (newSpan s.row) refl)
+once_by s false e = rw (take-some s e, take_none (new_span s.row) refl)
 
 -- what is left is empty
-pub take-once : (s : Span) → (tryTaken (tryTaken s).rest).taken ≡ false
+pub take-once : (s : Span) → (try_taken (try_taken s).rest).taken ≡ false
 take-once s = once_by s (is_empty s) refl

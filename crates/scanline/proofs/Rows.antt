@@ -20,18 +20,18 @@ use Rattle.whole.proofs.Tests.{and-iff, le_iff}
 use Rattle.shapes.specs.declared.Point.{Point}
 use Rattle.shapes.specs.declared.Line.{Line}
 use Rattle.shapes.specs.declared.Span.{Span}
-use Rattle.shapes.specs.Limits.{lineLimit}
+use Rattle.shapes.specs.Limits.{line_limit}
 use Rattle.shapes.specs.Shape.{point_of, LineNear, minus, delta}
 use Rattle.shapes.specs.Spans.{Covers}
 use Rattle.shapes.proofs.Laws.{near-delta}
-use Rattle.bresenham.specs.Points.{linePoints}
-use Rattle.bresenham.specs.Paces.{turnsAt, wide, tall, steep, stepsFrom, Passes, Between}
+use Rattle.bresenham.specs.Points.{line_points}
+use Rattle.bresenham.specs.Paces.{turns_at, wide, tall, steep, steps_from, Passes, Between}
 use Rattle.bresenham.proofs.Paces.{turns-most, turns-within, within-turns}
 use Rattle.bresenham.proofs.Lines.{steps_back, steps_on, same-steps, between-steps, pixel-of, pixel-on, line-columns, line-rows}
 use Rattle.scanline.specs.Spans.{extended}
-use Rattle.scanline.specs.Meeting.{seenAll, met}
+use Rattle.scanline.specs.Meeting.{seen_all, met}
 use Rattle.scanline.specs.declared.quotients.Ends.{Ends}
-use Rattle.scanline.specs.Rows.{has_row, Sizes, endsOf, last_at, first_at, ends_at, rows_to, endsOn, columnAt, firstOn, lastOn}
+use Rattle.scanline.specs.Rows.{has_row, Sizes, ends_of, last_at, first_at, ends_at, rows_to, ends_on, column_at, first_on, last_on}
 use Rattle.scanline.proofs.Folds.{extends, seen-on, seen_same}
 
 -- nothing wraps
@@ -93,14 +93,14 @@ pub record Row (s : Bool) (w h r : ℕ) (e : Ends) : Type 0 where
   pub most : e.last ≤ w
   pub exactly : (k : ℕ) → k ≤ w → Passes s w h k r ↔ ((e.first ≤ k) × (k ≤ e.last))
 
-ends_by : (w h r : ℕ) (s : Bool) → ltb w h ≡ s → r ≤ h → Row s w h r (cond s (endsOf (turnsAt h w r) (turnsAt h w r)) (endsOf (first_at w h r) (last_at w h r)))
+ends_by : (w h r : ℕ) (s : Bool) → ltb w h ≡ s → r ≤ h → Row s w h r (cond s (ends_of (turns_at h w r) (turns_at h w r)) (ends_of (first_at w h r) (last_at w h r)))
 ends_by w h r true e row =
     let lt = ltb-true w h e in
     let most = turns-most h w row in
     record {
-      order = le_refl (turnsAt h w r);
+      order = le_refl (turns_at h w r);
       most = most;
-      exactly = λ k less. (λ p. let is = within-turns (omega arith) row less p in (omega arith, omega arith), λ q. let is : turnsAt h w r ≡ k = omega arith in rw (← is) (turns-within (omega arith) row));
+      exactly = λ k less. (λ p. let is = within-turns (omega arith) row less p in (omega arith, omega arith), λ q. let is : turns_at h w r ≡ k = omega arith in rw (← is) (turns-within (omega arith) row));
     }
 ends_by w h r false e row =
     let flat = ltb-false w h e in
@@ -120,7 +120,7 @@ row_ends w h r row = ends_by w h r (ltb w h) refl row
 -- ---- a row of a line
 
 -- columns in between
-covers-by : (t : Span) (x d : ℤ) {i k j : ℕ} (s : Bool) → lt_z d (pos 0) ≡ s → i ≤ k → k ≤ j → Covers t (stepsFrom x d i) → Covers t (stepsFrom x d j) → Covers t (stepsFrom x d k)
+covers-by : (t : Span) (x d : ℤ) {i k j : ℕ} (s : Bool) → lt_z d (pos 0) ≡ s → i ≤ k → k ≤ j → Covers t (steps_from x d i) → Covers t (steps_from x d j) → Covers t (steps_from x d k)
 covers-by t x d {i} {k} {j} true e low high p q =
     let v = rw (steps_back x d i e) at p in
     let w = rw (steps_back x d j e) at q in
@@ -147,21 +147,21 @@ ends-within v w h =
 -- a column of the line's points on a row, counted from its start
 pub record At (l : Line) (row c : ℤ) : Type 0 where
   pub count : ℕ
-  pub is : c ≡ columnAt l count
-  pub from : (endsOn l row).first ≤ count
-  pub to : count ≤ (endsOn l row).last
+  pub is : c ≡ column_at l count
+  pub from : (ends_on l row).first ≤ count
+  pub to : count ≤ (ends_on l row).last
 
 module _ (l : Line) (row : ℤ) (on : Between l.start.y l.end.y row) where
-  way : (row ≡ stepsFrom l.start.y (delta l).y (rows_to l row)) × (rows_to l row ≤ tall l)
+  way : (row ≡ steps_from l.start.y (delta l).y (rows_to l row)) × (rows_to l row ≤ tall l)
   unfolding delta minus
   way = let w = between-steps l.start.y l.end.y row on in (w.is, w.most)
 
-  pub row_of : Row (steep l) (wide l) (tall l) (rows_to l row) (endsOn l row)
-  unfolding endsOn
+  pub row_of : Row (steep l) (wide l) (tall l) (rows_to l row) (ends_on l row)
+  unfolding ends_on
   row_of = row_ends (wide l) (tall l) (rows_to l row) way.1
 
   -- the points on the row are in the columns from the first to the last
-  pub column-of : {q : Point} → Memᴰ q (linePoints l) → q.y ≡ row → At l row q.x
+  pub column-of : {q : Point} → Memᴰ q (line_points l) → q.y ≡ row → At l row q.x
   column-of {q} m y =
       let p = pixel-of l m in
       let same = same-steps l.start.y (delta l).y (sym (ap (λ (q : Point). q.y) p.is) ∙ y ∙ way.0) in
@@ -169,47 +169,47 @@ module _ (l : Line) (row : ℤ) (on : Between l.start.y l.end.y row) where
       record { count = p.columns; is = ap (λ (q : Point). q.x) p.is; from = w.0; to = w.1 }
 
   -- and there is one in each of these
-  pub on-column : {c : ℤ} → At l row c → Memᴰ (point_of c row) (linePoints l)
+  pub on-column : {c : ℤ} → At l row c → Memᴰ (point_of c row) (line_points l)
   on-column {c} a =
       let less : a.count ≤ wide l = omega (arith, row_of.most, a.to) in
       Memᴰ.cast (cc (a.is, way.0)) (pixel-on l less way.1 ((row_of.exactly a.count less).1 (a.from, a.to)))
 
-  pub first-at : At l row (firstOn l row)
-  first-at = record { count = (endsOn l row).first; is = refl; from = le_refl (endsOn l row).first; to = row_of.order }
+  pub first-at : At l row (first_on l row)
+  first-at = record { count = (ends_on l row).first; is = refl; from = le_refl (ends_on l row).first; to = row_of.order }
 
-  pub last-at : At l row (lastOn l row)
-  last-at = record { count = (endsOn l row).last; is = refl; from = row_of.order; to = le_refl (endsOn l row).last }
+  pub last-at : At l row (last_on l row)
+  last-at = record { count = (ends_on l row).last; is = refl; from = row_of.order; to = le_refl (ends_on l row).last }
 
   -- what the code asks
-  pub sizes : {w h r : ℕ} → LineNear lineLimit l → w ≡ wide l → h ≡ tall l → r ≡ rows_to l row → Sizes w h r
+  pub sizes : {w h r : ℕ} → LineNear line_limit l → w ≡ wide l → h ≡ tall l → r ≡ rows_to l row → Sizes w h r
   sizes near e f g =
       let d = near-delta near in
-      rw (e, f, g) (record { wide-small = d.x-near.bound; tall-small = d.y-near.bound; row-most = way.1 })
+      rw (e, f, g) (record { wide_small = d.x_near.bound; tall_small = d.y_near.bound; row_most = way.1 })
 
-  pub counts-small : LineNear lineLimit l → ((endsOn l row).first ≤ 2 ^ 15) × ((endsOn l row).last ≤ 2 ^ 15)
-  counts-small near = omega (arith, (near-delta near).x-near.bound, row_of.order, row_of.most)
+  pub counts-small : LineNear line_limit l → ((ends_on l row).first ≤ 2 ^ 15) × ((ends_on l row).last ≤ 2 ^ 15)
+  counts-small near = omega (arith, (near-delta near).x_near.bound, row_of.order, row_of.most)
 
   pub at-near : {k : ℕ} {c : ℤ} → LineNear k l → At l row c → Within c k
-  at-near near a = ends-within near.start-near.x-near near.end-near.x-near (line-columns l (on-column a))
+  at-near near a = ends-within near.start_near.x_near near.end_near.x_near (line-columns l (on-column a))
 
 -- so a span that meets the line there takes in the first column and the last
-pub met-row : (s : Span) (l : Line) → Between l.start.y l.end.y s.row → met s l ≡ extended (extended s (firstOn l s.row)) (lastOn l s.row)
-unfolding met seenAll
+pub met-row : (s : Span) (l : Line) → Between l.start.y l.end.y s.row → met s l ≡ extended (extended s (first_on l s.row)) (last_on l s.row)
+unfolding met seen_all
 met-row s l on =
     let row = s.row in
-    let a = firstOn l row in
-    let b = lastOn l row in
+    let a = first_on l row in
+    let b = last_on l row in
     let one = extends s a in
     let two = extends (extended s a) b in
-    let both : seenAll s (point_of a row ∷ point_of b row ∷ []) ≡ extended (extended s a) b = rw (seen-on s (point_of a row) refl) (seen-on (extended s a) (point_of b row) (sym one.row)) in
-    seen_same s (linePoints l) (point_of a row ∷ point_of b row ∷ []) b (rw both two.at) among
+    let both : seen_all s (point_of a row ∷ point_of b row ∷ []) ≡ extended (extended s a) b = rw (seen-on s (point_of a row) refl) (seen-on (extended s a) (point_of b row) (sym one.row)) in
+    seen_same s (line_points l) (point_of a row ∷ point_of b row ∷ []) b (rw both two.at) among
     (λ q m y. let c = column-of l row on m y in rw (both, c.is) (covers-by (extended (extended s a) b) l.start.x (delta l).x (lt_z (delta l).x (pos 0)) refl c.from c.to (two.on a one.at) two.at))
     ∙ both
   where
-    among : (q : Point) → Memᴰ q (point_of (firstOn l s.row) s.row ∷ point_of (lastOn l s.row) s.row ∷ []) → Memᴰ q (linePoints l)
+    among : (q : Point) → Memᴰ q (point_of (first_on l s.row) s.row ∷ point_of (last_on l s.row) s.row ∷ []) → Memᴰ q (line_points l)
     among q m =
         ⊎_elim
-        (λ (e : q ≡ point_of (firstOn l s.row) s.row). Memᴰ.cast e (on-column l s.row on (first-at l s.row on)))
+        (λ (e : q ≡ point_of (first_on l s.row) s.row). Memᴰ.cast e (on-column l s.row on (first-at l s.row on)))
         (λ n. Memᴰ.cast (Memᴰ.eq_of_singleton n) (on-column l s.row on (last-at l s.row on)))
         (Memᴰ.cases_cons m)
 
@@ -240,7 +240,7 @@ amid-by l row c false e a b low high =
     record { count = m; is = omega (linear, sum x (pos m)) ∙ sym (steps_on x d m e); from = omega (linear, a.from); to = omega (linear, b.to) }
 
 -- a line's points on one row are contiguous
-pub met-contiguous : (l : Line) (q r : Point) (c : ℤ) → Memᴰ q (linePoints l) → Memᴰ r (linePoints l) → q.y ≡ r.y → q.x ≤ℤ c → c ≤ℤ r.x → Memᴰ (point_of c q.y) (linePoints l)
+pub met-contiguous : (l : Line) (q r : Point) (c : ℤ) → Memᴰ q (line_points l) → Memᴰ r (line_points l) → q.y ≡ r.y → q.x ≤ℤ c → c ≤ℤ r.x → Memᴰ (point_of c q.y) (line_points l)
 met-contiguous l q r c mq mr e low high =
     let on = line-rows l mq in
     on-column l q.y on (amid-by l q.y c (lt_z (delta l).x (pos 0)) refl (column-of l q.y on mq refl) (column-of l q.y on mr (sym e)) low high)

@@ -5,11 +5,11 @@ use Rattle.std.specs.Int.Signed.{le_z}
 use Rattle.whole.specs.Number.{lesser, greater}
 use Rattle.shapes.specs.declared.Line.{Line}
 use Rattle.shapes.specs.Shape.{delta}
-use Rattle.bresenham.specs.Paces.{turnsAt, wide, tall, stepsFrom}
+use Rattle.bresenham.specs.Paces.{turns_at, wide, tall, steps_from}
 use Rattle.scanline.specs.declared.quotients.Ends.{Ends}
 
-abbrev pub endsOf : ℕ → ℕ → Ends
-endsOf first last = record { first = first; last = last }
+abbrev pub ends_of : ℕ → ℕ → Ends
+ends_of first last = record { first = first; last = last }
 
 -- a line that goes at least as many columns as rows: its last column on the last row is its end's, and on another that before
 -- half of the way to the next row
@@ -22,7 +22,7 @@ first_at w h r = cond (eqb r 0) 0 (last_at w h (r - 1) + 1)
 
 -- another line has one point on a row
 unfoldable pub ends_at : ℕ → ℕ → ℕ → Ends
-ends_at w h r = cond (ltb w h) (endsOf (turnsAt h w r) (turnsAt h w r)) (endsOf (first_at w h r) (last_at w h r))
+ends_at w h r = cond (ltb w h) (ends_of (turns_at h w r) (turns_at h w r)) (ends_of (first_at w h r) (last_at w h r))
 
 -- ---- of a line
 
@@ -34,23 +34,23 @@ has_row l row = le_z (lesser l.start.y l.end.y) row && le_z row (greater l.start
 abbrev pub rows_to : Line → ℤ → ℕ
 rows_to l row = nat_abs (row -ℤ l.start.y)
 
-unfoldable pub endsOn : Line → ℤ → Ends
-endsOn l row = ends_at (wide l) (tall l) (rows_to l row)
+unfoldable pub ends_on : Line → ℤ → Ends
+ends_on l row = ends_at (wide l) (tall l) (rows_to l row)
 
 -- the column k columns from its start, toward its end
-abbrev pub columnAt : Line → ℕ → ℤ
-columnAt l k = stepsFrom l.start.x (delta l).x k
+abbrev pub column_at : Line → ℕ → ℤ
+column_at l k = steps_from l.start.x (delta l).x k
 
 -- the first and the last column of its points on a row
-abbrev pub firstOn : Line → ℤ → ℤ
-firstOn l row = columnAt l (endsOn l row).first
+abbrev pub first_on : Line → ℤ → ℤ
+first_on l row = column_at l (ends_on l row).first
 
-abbrev pub lastOn : Line → ℤ → ℤ
-lastOn l row = columnAt l (endsOn l row).last
+abbrev pub last_on : Line → ℤ → ℤ
+last_on l row = column_at l (ends_on l row).last
 
 -- ---- what the code asks: small enough for 64 bits, and one of the line's rows
 
 pub record Sizes (w h r : ℕ) : Type 0 where
-  pub wide-small : w ≤ 2 ^ 15
-  pub tall-small : h ≤ 2 ^ 15
-  pub row-most : r ≤ h
+  pub wide_small : w ≤ 2 ^ 15
+  pub tall_small : h ≤ 2 ^ 15
+  pub row_most : r ≤ h

@@ -8,8 +8,8 @@ use Rattle.scanline.specs.declared.Joined.{Joined}
 use Rattle.scanline.specs.declared.Handed.{Handed}
 
 -- W6: a new span is empty, 0 to 0
-abbrev pub newSpan : ℤ → Span
-newSpan row = span_of row (pos 0) (pos 0)
+abbrev pub new_span : ℤ → Span
+new_span row = span_of row (pos 0) (pos 0)
 
 -- the printed `extend`: an empty span becomes the column, another is made longer at the side where the column is missing
 unfoldable pub extended : Span → ℤ → Span
@@ -26,8 +26,8 @@ touches s o = le_z o.start s.end && le_z s.start o.end
 abbrev pub in_range : ℤ → ℤ → ℤ → Bool
 in_range a b x = le_z a x && le_z x b
 
-unfoldable pub printedTouches : Span → Span → Bool
-printedTouches s o =
+unfoldable pub printed_touches : Span → Span → Bool
+printed_touches s o =
     (in_range (s.start -ℤ pos 1) s.end o.start || in_range (s.start -ℤ pos 1) s.end (o.end -ℤ pos 1))
     || (in_range (o.start -ℤ pos 1) o.end s.start || in_range (o.start -ℤ pos 1) o.end (s.end -ℤ pos 1))
 
@@ -36,14 +36,14 @@ join s o = span_of s.row (lesser s.start o.start) (greater s.end o.end)
 
 -- W6, in this order: an empty current span takes the other's start and end; an empty other changes nothing; spans that
 -- overlap or are adjacent join; else no
-unfoldable pub tryExtended : Span → Span → Joined
-tryExtended s o =
+unfoldable pub try_extended : Span → Span → Joined
+try_extended s o =
     cond (is_empty s) (record { joined = true; span = span_of s.row o.start o.end })
     (cond (is_empty o) (record { joined = true; span = s })
     (cond (touches s o) (record { joined = true; span = join s o }) (record { joined = false; span = s })))
 
 -- W6: a span that is not empty is handed out once, and what is left is 0 to 0
-unfoldable pub tryTaken : Span → Handed
-tryTaken s =
-    cond (is_empty s) (record { taken = false; span = newSpan (pos 0); rest = s })
-    (record { taken = true; span = s; rest = newSpan s.row })
+unfoldable pub try_taken : Span → Handed
+try_taken s =
+    cond (is_empty s) (record { taken = false; span = new_span (pos 0); rest = s })
+    (record { taken = true; span = s; rest = new_span s.row })

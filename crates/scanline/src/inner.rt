@@ -1,9 +1,9 @@
 //! Spans for the crates above: no test of the input. Only a column to be added and a line have to be small enough for 64 bits.
 ghost use Rattle.std.specs.Prelude.{◌≡◌};
 ghost use Rattle.whole.specs.Number.{Within};
-ghost use Rattle.shapes.specs.Limits.{productLimit, lineLimit};
+ghost use Rattle.shapes.specs.Limits.{product_limit, line_limit};
 ghost use Rattle.shapes.specs.Shape.{LineNear};
-ghost use Rattle.scanline.specs.Spans.{extended, touches as touchesOf, join, newSpan, tryExtended, tryTaken};
+ghost use Rattle.scanline.specs.Spans.{extended, touches as touches_of, join, new_span, try_extended, try_taken};
 ghost use Rattle.scanline.specs.Meeting.{met};
 
 use crate::quotients::{column_at, ends_on, has_row};
@@ -14,7 +14,7 @@ use whole::inner::{both, greater, lesser};
 
 /// The shortest span that has the span's columns and one more.
 pub fn extend(span: Span, column: i64) -> Span
-    requires { Within column productLimit }
+    requires { Within column product_limit }
     ensures { result ≡ extended span column }
 {
     let row = span.row;
@@ -46,7 +46,7 @@ pub fn extend(span: Span, column: i64) -> Span
 
 /// The shortest span that has the span's columns and those of the line's points on its row.
 pub fn meet(span: Span, line: Line) -> Span
-    requires { LineNear lineLimit line }
+    requires { LineNear line_limit line }
     ensures { result ≡ met span line }
 {
     let row = span.row;
@@ -61,7 +61,7 @@ pub fn meet(span: Span, line: Line) -> Span
 
 /// Whether two spans that are not empty overlap or are adjacent.
 fn touches(span: Span, other: Span) -> bool
-    ensures { result ≡ touchesOf span other }
+    ensures { result ≡ touches_of span other }
 {
     both(other.start <= span.end, span.start <= other.end)
 }
@@ -80,7 +80,7 @@ fn joined(span: Span, other: Span) -> Span
 /// The span joined with another: an empty span takes the other's start and end; an empty other changes nothing; spans that
 /// overlap or are adjacent join; else the span stays, and the answer is no.
 pub fn try_extend(span: Span, other: Span) -> Joined
-    ensures { result ≡ tryExtended span other }
+    ensures { result ≡ try_extended span other }
 {
     if is_empty(span) {
         return Joined {
@@ -109,7 +109,7 @@ pub fn try_extend(span: Span, other: Span) -> Joined
 
 /// Hands out a span that is not empty, and leaves 0 to 0 on its row; an empty span is left as it is.
 pub fn try_take(span: Span) -> Handed
-    ensures { result ≡ tryTaken span }
+    ensures { result ≡ try_taken span }
 {
     if is_empty(span) {
         return Handed {
@@ -127,7 +127,7 @@ pub fn try_take(span: Span) -> Handed
 
 /// A new span on a row: empty, 0 to 0.
 pub fn new_span(row: i64) -> Span
-    ensures { result ≡ newSpan row }
+    ensures { result ≡ new_span row }
 {
     Span {
         row,

@@ -1,9 +1,9 @@
 //! Spans of a row: a new span, one made longer by a column or by the points of a line, two joined, and one handed out.
 //! `scanline.rs`, and 01's rule W6.
 ghost use Rattle.std.specs.Prelude.{◌≡◌};
-ghost use Rattle.shapes.specs.Limits.{cornerLimit};
-ghost use Rattle.scanline.specs.Answers.{rowRefusal, spanRefusal, extendRefusal, meetRefusal, joinRefusal};
-ghost use Rattle.scanline.specs.Answers.{freshAnswer, extendAnswer, meetAnswer, tryExtendAnswer, tryTakeAnswer};
+ghost use Rattle.shapes.specs.Limits.{corner_limit};
+ghost use Rattle.scanline.specs.Answers.{row_refusal, span_refusal, extend_refusal, meet_refusal, join_refusal};
+ghost use Rattle.scanline.specs.Answers.{fresh_answer, extend_answer, meet_answer, try_extend_answer, try_take_answer};
 
 pub mod inner; // inner.rt: the same without the tests
 pub mod quotients; // quotients.rt: a line's first and last column on a row
@@ -57,7 +57,7 @@ pub struct Handed {
 
 /// A new span on a row: empty, 0 to 0. A row outside 4,095 is refused with 6.
 pub fn fresh(row: i64) -> Spanned
-    ensures { result ≡ freshAnswer cornerLimit row }
+    ensures { result ≡ fresh_answer corner_limit row }
 {
     if within(row, CORNER) {
         return Spanned {
@@ -74,7 +74,7 @@ pub fn fresh(row: i64) -> Spanned
 /// The shortest span that has the span's columns and one more. A row outside 4,095 is refused with 6; then a span with a
 /// column outside 4,095, and such a column to be added, with 7.
 pub fn extend(span: Span, column: i64) -> Spanned
-    ensures { result ≡ extendAnswer cornerLimit span column }
+    ensures { result ≡ extend_answer corner_limit span column }
 {
     let refusal = extend_refusal(span, column);
     if refusal == 0 {
@@ -89,7 +89,7 @@ pub fn extend(span: Span, column: i64) -> Spanned
 /// The shortest span that has the span's columns and those of the line's points on its row. A line with a coordinate beyond
 /// 4,095 is refused with 4; then a row outside 4,095 with 6; then a span with a column outside 4,095 with 7.
 pub fn meet(span: Span, line: Line) -> Spanned
-    ensures { result ≡ meetAnswer cornerLimit span line }
+    ensures { result ≡ meet_answer corner_limit span line }
 {
     let refusal = meet_refusal(span, line);
     if refusal == 0 {
@@ -105,7 +105,7 @@ pub fn meet(span: Span, line: Line) -> Spanned
 /// overlap or are adjacent join; else the span stays, and the answer is no. A row outside 4,095 and two rows that differ are
 /// refused with 6; then a span with a column outside 4,095 with 7.
 pub fn try_extend(span: Span, other: Span) -> Extended
-    ensures { result ≡ tryExtendAnswer cornerLimit span other }
+    ensures { result ≡ try_extend_answer corner_limit span other }
 {
     let refusal = join_refusal(span, other);
     if refusal == 0 {
@@ -128,7 +128,7 @@ pub fn try_extend(span: Span, other: Span) -> Extended
 /// Hands out a span that is not empty, and leaves 0 to 0 on its row; an empty span is left as it is. A row outside 4,095 is
 /// refused with 6; then a span with a column outside 4,095 with 7.
 pub fn try_take(span: Span) -> Taken
-    ensures { result ≡ tryTakeAnswer cornerLimit span }
+    ensures { result ≡ try_take_answer corner_limit span }
 {
     let refusal = span_refusal(span);
     if refusal == 0 {
@@ -153,14 +153,14 @@ pub fn try_take(span: Span) -> Taken
 
 /// The refusal of a span alone, 0 where there is none: 6, then 7.
 fn span_refusal(span: Span) -> u64
-    ensures { result ≡ spanRefusal cornerLimit span }
+    ensures { result ≡ span_refusal corner_limit span }
 {
     row_refusal(within(span.row, CORNER), is_sound(span, CORNER))
 }
 
 /// The refusal of a span and a column: 6, then 7.
 fn extend_refusal(span: Span, column: i64) -> u64
-    ensures { result ≡ extendRefusal cornerLimit span column }
+    ensures { result ≡ extend_refusal corner_limit span column }
 {
     row_refusal(
         within(span.row, CORNER),
@@ -170,7 +170,7 @@ fn extend_refusal(span: Span, column: i64) -> u64
 
 /// The refusal of two spans: 6, then 7.
 fn join_refusal(span: Span, other: Span) -> u64
-    ensures { result ≡ joinRefusal cornerLimit span other }
+    ensures { result ≡ join_refusal corner_limit span other }
 {
     let row = span.row;
     let beside = other.row;
@@ -182,7 +182,7 @@ fn join_refusal(span: Span, other: Span) -> u64
 
 /// The refusal of a span and a line: 4, then 6, then 7.
 fn meet_refusal(span: Span, line: Line) -> u64
-    ensures { result ≡ meetRefusal cornerLimit span line }
+    ensures { result ≡ meet_refusal corner_limit span line }
 {
     if is_line_near(line, CORNER) {
         return span_refusal(span);
@@ -192,7 +192,7 @@ fn meet_refusal(span: Span, line: Line) -> u64
 
 /// 6 where the row is not right; then 7 where some column is not inside; else 0.
 fn row_refusal(right: bool, inside: bool) -> u64
-    ensures { result ≡ rowRefusal right inside }
+    ensures { result ≡ row_refusal right inside }
 {
     if right {
         if inside {

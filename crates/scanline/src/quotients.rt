@@ -1,9 +1,9 @@
 //! A line's first and last column on a row, by quotients and without a walk.
 ghost use Rattle.std.specs.Prelude.{◌≡◌, ◌^◌, ◌≤◌, ◌<◌};
-ghost use Rattle.shapes.specs.Limits.{lineLimit};
+ghost use Rattle.shapes.specs.Limits.{line_limit};
 ghost use Rattle.shapes.specs.Shape.{LineNear};
-ghost use Rattle.bresenham.specs.Paces.{turnsAt, Between};
-ghost use Rattle.scanline.specs.Rows.{has_row, Sizes, last_at, first_at, ends_at, endsOn, columnAt};
+ghost use Rattle.bresenham.specs.Paces.{turns_at, Between};
+ghost use Rattle.scanline.specs.Rows.{has_row, Sizes, last_at, first_at, ends_at, ends_on, column_at};
 
 use bresenham::inner::direction;
 use shapes::Line;
@@ -32,7 +32,7 @@ pub fn has_row(line: Line, row: i64) -> bool
 fn turns_at(h: u64, w: u64, r: u64) -> u64
     requires sizes { Sizes w h r }
     requires w_lt_h { w < h }
-    ensures { result ≡ turnsAt h w r }
+    ensures { result ≡ turns_at h w r }
 {
     (r * (2 * w) + (h - 1)) / (2 * h)
 }
@@ -80,9 +80,9 @@ fn ends_at(w: u64, h: u64, r: u64) -> Ends
 
 /// Both, of a line on one of its rows.
 pub fn ends_on(line: Line, row: i64) -> Ends
-    requires line_near { LineNear lineLimit line }
+    requires line_near { LineNear line_limit line }
     requires between { Between line.start.y line.end.y row }
-    ensures { result ≡ endsOn line row }
+    ensures { result ≡ ends_on line row }
 {
     let start = line.start;
     let y = start.y;
@@ -92,9 +92,9 @@ pub fn ends_on(line: Line, row: i64) -> Ends
 
 /// The column that is `k` columns from a line's start, toward its end.
 pub fn column_at(line: Line, k: u64) -> i64
-    requires line_near { LineNear lineLimit line }
+    requires line_near { LineNear line_limit line }
     requires k_bound { k ≤ 2 ^ 15 }
-    ensures { result ≡ columnAt line k }
+    ensures { result ≡ column_at line k }
 {
     let start = line.start;
     let x = start.x;

@@ -11,9 +11,9 @@ use Rattle.whole.proofs.Tests.{clash}
 use Rattle.shapes.specs.declared.Span.{Span}
 use Rattle.shapes.specs.Spans.{Covers, is_empty}
 use Rattle.shapes.proofs.Columns.{covers-some}
-use Rattle.scanline.specs.Spans.{touches, tryExtended, tryTaken}
+use Rattle.scanline.specs.Spans.{touches, try_extended, try_taken}
 use Rattle.scanline.proofs.Laws.{join-no, joined-covers, take-some, take_none}
-use Rattle.scanline_intersections.specs.Merging.{mergedNext, mergedAll}
+use Rattle.scanline_intersections.specs.Merging.{merged_next, merged_all}
 use Rattle.scanline_intersections.specs.Words.{Covered, first, later}
 
 -- ---- the columns: lost or added never
@@ -25,16 +25,16 @@ covered-cases : {c : ℤ} {s : Span} {ss : List Span} → Covered c (s ∷ ss) �
 covered-cases (first h) = inl h
 covered-cases (later h) = inr h
 
-end_by : (s : Span) (c : ℤ) (t : Bool) → is_empty s ≡ t → Covered c (mergedAll s []) ↔ (Covers s c ⊎ Covered c [])
-unfolding mergedAll
+end_by : (s : Span) (c : ℤ) (t : Bool) → is_empty s ≡ t → Covered c (merged_all s []) ↔ (Covers s c ⊎ Covered c [])
+unfolding merged_all
 end_by s c true e = rw e (λ h. absurd (covered_none h), ⊎_elim (λ h. absurd (clash e (covers-some s c h))) (λ h. h))
 end_by s c false e = rw e (covered-cases, ⊎_elim first later)
 
-turn_by : (s o : Span) (os : List Span) (c : ℤ) → ((r : Span) → Covered c (mergedAll r os) ↔ (Covers r c ⊎ Covered c os))
-    → (t : Bool) → (tryExtended s o).joined ≡ t → Covered c (mergedAll s (o ∷ os)) ↔ (Covers s c ⊎ Covered c (o ∷ os))
-unfolding mergedAll
+turn_by : (s o : Span) (os : List Span) (c : ℤ) → ((r : Span) → Covered c (merged_all r os) ↔ (Covers r c ⊎ Covered c os))
+    → (t : Bool) → (try_extended s o).joined ≡ t → Covered c (merged_all s (o ∷ os)) ↔ (Covers s c ⊎ Covered c (o ∷ os))
+unfolding merged_all
 turn_by s o os c rest true e =
-    let all = rest (tryExtended s o).span in
+    let all = rest (try_extended s o).span in
     let two = joined-covers s o e c in
     rw e (
       λ h. ⊎_elim (λ g. ⊎_elim inl (λ k. inr (first k)) (two.0 g)) (λ g. inr (later g)) (all.0 h),
@@ -44,38 +44,38 @@ turn_by s o os c rest false e =
     rw e (λ h. ⊎_elim inl (λ g. inr (⊎_elim first later ((rest o).0 g))) (covered-cases h), ⊎_elim first (λ g. later ((rest o).1 (covered-cases g))))
 
 -- all merged spans together have the columns of what is gathered and of the spans that are left
-pub merged-covers : (s : Span) (os : List Span) (c : ℤ) → Covered c (mergedAll s os) ↔ (Covers s c ⊎ Covered c os)
+pub merged-covers : (s : Span) (os : List Span) (c : ℤ) → Covered c (merged_all s os) ↔ (Covers s c ⊎ Covered c os)
 merged-covers s [] c = end_by s c (is_empty s) refl
-merged-covers s (o ∷ os) c = turn_by s o os c (λ r. merged-covers r os c) (tryExtended s o).joined refl
+merged-covers s (o ∷ os) c = turn_by s o os c (λ r. merged-covers r os c) (try_extended s o).joined refl
 
 -- ---- a span handed out is not empty
 
-end-some : (s : Span) (t : Bool) → is_empty s ≡ t → (tryTaken s).taken ≡ true → is_empty (tryTaken s).span ≡ false
+end-some : (s : Span) (t : Bool) → is_empty s ≡ t → (try_taken s).taken ≡ true → is_empty (try_taken s).span ≡ false
 end-some s true e h = absurd (clash h (ap (λ r. r.taken) (take_none s e)))
 end-some s false e h = ap (λ r. is_empty r.span) (take-some s e) ∙ e
 
-some-by : (k : ℕ) (w : ℤ) (s o : Span) (os : List Span) → ((r : Span) → (mergedNext (k + 1) w r os).found ≡ true → is_empty (mergedNext (k + 1) w r os).span ≡ false)
-    → (t : Bool) → (tryExtended s o).joined ≡ t → (mergedNext k w s (o ∷ os)).found ≡ true → is_empty (mergedNext k w s (o ∷ os)).span ≡ false
-unfolding mergedNext
-some-by k w s o os rest true e h = rw e (rest (tryExtended s o).span (rw e at h))
+some-by : (k : ℕ) (w : ℤ) (s o : Span) (os : List Span) → ((r : Span) → (merged_next (k + 1) w r os).found ≡ true → is_empty (merged_next (k + 1) w r os).span ≡ false)
+    → (t : Bool) → (try_extended s o).joined ≡ t → (merged_next k w s (o ∷ os)).found ≡ true → is_empty (merged_next k w s (o ∷ os)).span ≡ false
+unfolding merged_next
+some-by k w s o os rest true e h = rw e (rest (try_extended s o).span (rw e at h))
 some-by k w s o os rest false e h = rw e ((join-no s o).0 e).0
 
 -- whatever is handed out
-pub some_left : (k : ℕ) (w : ℤ) (s : Span) (os : List Span) → (mergedNext k w s os).found ≡ true → is_empty (mergedNext k w s os).span ≡ false
-unfolding mergedNext
+pub some_left : (k : ℕ) (w : ℤ) (s : Span) (os : List Span) → (merged_next k w s os).found ≡ true → is_empty (merged_next k w s os).span ≡ false
+unfolding merged_next
 some_left k w s [] h = end-some s (is_empty s) refl h
-some_left k w s (o ∷ os) h = some-by k w s o os (λ r. some_left (k + 1) w r os) (tryExtended s o).joined refl h
+some_left k w s (o ∷ os) h = some-by k w s o os (λ r. some_left (k + 1) w r os) (try_extended s o).joined refl h
 
 -- ---- the row of what is gathered stays
 
-joined_by : (s o : Span) (a b t : Bool) → is_empty s ≡ a → is_empty o ≡ b → touches s o ≡ t → (tryExtended s o).span.row ≡ s.row
-unfolding tryExtended
+joined_by : (s o : Span) (a b t : Bool) → is_empty s ≡ a → is_empty o ≡ b → touches s o ≡ t → (try_extended s o).span.row ≡ s.row
+unfolding try_extended
 joined_by s o true b t e f g = rw e
 joined_by s o false true t e f g = rw (e, f)
 joined_by s o false false true e f g = rw (e, f, g)
 joined_by s o false false false e f g = rw (e, f, g)
 
-pub joined-row : (s o : Span) → (tryExtended s o).span.row ≡ s.row
+pub joined-row : (s o : Span) → (try_extended s o).span.row ≡ s.row
 joined-row s o = joined_by s o (is_empty s) (is_empty o) (touches s o) refl refl refl
 
 -- ---- spans by places: a column of one of them is a column at some place

@@ -8,43 +8,43 @@ use borrow.Author.Tests.{le-leb}
 use lib.IntN.{ℤ}
 use Rattle.whole.proofs.Places.{list-end, list-next}
 use Rattle.shapes.specs.declared.Span.{Span}
-use Rattle.scanline.specs.Spans.{tryExtended}
+use Rattle.scanline.specs.Spans.{try_extended}
 use Rattle.thick_segment.specs.Segments.{SegmentNear}
-use Rattle.coordinates.specs.Points.{pointCount, segmentsOf}
-use Rattle.route_joins.specs.Joins.{openSegment, openCount, segmentOf, segmentCount, endPlace, joinCount, areJoinsNear}
+use Rattle.coordinates.specs.Points.{point_count, segments_of}
+use Rattle.route_joins.specs.Joins.{open_segment, open_count, segment_of, segment_count, end_place, join_count, are_joins_near}
 use Rattle.route_joins.proofs.Near.{joins-exactly}
-use Rattle.scanline_intersections.specs.Segments.{spanAt, spansFrom}
-use Rattle.scanline_intersections.specs.Merging.{walk_of, mergedNext}
+use Rattle.scanline_intersections.specs.Segments.{span_at, spans_from}
+use Rattle.scanline_intersections.specs.Merging.{walk_of, merged_next}
 
 -- where all joins of a route are near, so is each of its segments
-pub segment-near : {k i : ℕ} (cs : List ℤ) (w : ℤ) → areJoinsNear k false cs w ≡ true → i < openCount cs → SegmentNear k (openSegment cs w i)
-unfolding segmentOf segmentCount segmentsOf endPlace joinCount
+pub segment-near : {k i : ℕ} (cs : List ℤ) (w : ℤ) → are_joins_near k false cs w ≡ true → i < open_count cs → SegmentNear k (open_segment cs w i)
+unfolding segment_of segment_count segments_of end_place join_count
 segment-near {k} {i} cs w e h =
     let all = (joins-exactly k false cs w).0 e in
-    let many : joinCount cs ≡ pointCount cs = rw (le-leb 2 (pointCount cs) (omega arith)) in
-    record { start-near = all i (omega (arith, many)); end-near = all (i + 1) (omega (arith, many)) }
+    let many : join_count cs ≡ point_count cs = rw (le-leb 2 (point_count cs) (omega arith)) in
+    record { start_near = all i (omega (arith, many)); end_near = all (i + 1) (omega (arith, many)) }
 
 module _ (cs : List ℤ) (w row : ℤ) (k : ℕ) where
-  pub spans-turn : k < openCount cs → spansFrom cs w row k ≡ spanAt cs w row k ∷ spansFrom cs w row (k + 1)
-  unfolding spansFrom
-  spans-turn h = list-next (spanAt cs w row) (openCount cs) k h
+  pub spans-turn : k < open_count cs → spans_from cs w row k ≡ span_at cs w row k ∷ spans_from cs w row (k + 1)
+  unfolding spans_from
+  spans-turn h = list-next (span_at cs w row) (open_count cs) k h
 
-  pub spans-end : openCount cs ≤ k → spansFrom cs w row k ≡ []
-  unfolding spansFrom
-  spans-end h = list-end (spanAt cs w row) (openCount cs) k h
+  pub spans-end : open_count cs ≤ k → spans_from cs w row k ≡ []
+  unfolding spans_from
+  spans-end h = list-end (span_at cs w row) (open_count cs) k h
 
   module _ (s : Span) where
     -- the span at the place is gathered
-    pub merged-more : k < openCount cs → (tryExtended s (spanAt cs w row k)).joined ≡ true
-        → mergedNext k w s (spansFrom cs w row k) ≡ mergedNext (k + 1) w (tryExtended s (spanAt cs w row k)).span (spansFrom cs w row (k + 1))
-    unfolding mergedNext
+    pub merged-more : k < open_count cs → (try_extended s (span_at cs w row k)).joined ≡ true
+        → merged_next k w s (spans_from cs w row k) ≡ merged_next (k + 1) w (try_extended s (span_at cs w row k)).span (spans_from cs w row (k + 1))
+    unfolding merged_next
     merged-more h e = rw (spans-turn h, e)
 
     -- it is not, and what is gathered is handed out
-    pub merged-stop : k < openCount cs → (tryExtended s (spanAt cs w row k)).joined ≡ false
-        → mergedNext k w s (spansFrom cs w row k) ≡ record { refusal = 0; bend = 0; found = true; span = s; walk = walk_of (k + 1) w (spanAt cs w row k) }
-    unfolding mergedNext
+    pub merged-stop : k < open_count cs → (try_extended s (span_at cs w row k)).joined ≡ false
+        → merged_next k w s (spans_from cs w row k) ≡ record { refusal = 0; bend = 0; found = true; span = s; walk = walk_of (k + 1) w (span_at cs w row k) }
+    unfolding merged_next
     merged-stop h e = rw (spans-turn h, e)
 
-    pub merged-end : openCount cs ≤ k → mergedNext k w s (spansFrom cs w row k) ≡ mergedNext k w s []
+    pub merged-end : open_count cs ≤ k → merged_next k w s (spans_from cs w row k) ≡ merged_next k w s []
     merged-end h = rw (spans-end h)

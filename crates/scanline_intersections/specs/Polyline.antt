@@ -7,13 +7,13 @@ use Rattle.line_join.specs.declared.Join.{Join}
 use Rattle.line_join.specs.Join.{start_of, end_of, join_of}
 use Rattle.thick_segment.specs.declared.Segment.{Segment}
 
-unfoldable pub nextSegments : ℤ → Join → List Point → List Segment
-nextSegments w start [] = []
-nextSegments w start (a ∷ []) = []
-nextSegments w start (a ∷ b ∷ []) = record { start = start; end = end_of a b w None } ∷ nextSegments w (end_of a b w None) (b ∷ [])
-nextSegments w start (a ∷ b ∷ c ∷ ps) = record { start = start; end = join_of a b c w None } ∷ nextSegments w (join_of a b c w None) (b ∷ c ∷ ps)
+unfoldable pub next_segments : ℤ → Join → List Point → List Segment
+next_segments w start [] = []
+next_segments w start (a ∷ []) = []
+next_segments w start (a ∷ b ∷ []) = record { start = start; end = end_of a b w None } ∷ next_segments w (end_of a b w None) (b ∷ [])
+next_segments w start (a ∷ b ∷ c ∷ ps) = record { start = start; end = join_of a b c w None } ∷ next_segments w (join_of a b c w None) (b ∷ c ∷ ps)
 
-unfoldable pub polylineSegments : ℤ → List Point → List Segment
-polylineSegments w [] = []
-polylineSegments w (a ∷ []) = []
-polylineSegments w (a ∷ b ∷ ps) = nextSegments w (start_of a b w None) (a ∷ b ∷ ps)
+unfoldable pub polyline_segments : ℤ → List Point → List Segment
+polyline_segments w [] = []
+polyline_segments w (a ∷ []) = []
+polyline_segments w (a ∷ b ∷ ps) = next_segments w (start_of a b w None) (a ∷ b ∷ ps)

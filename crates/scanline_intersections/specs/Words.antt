@@ -2,10 +2,10 @@
 use Rattle.std.specs.Prelude.{◌≡◌, true, false, List, [], ◌∷◌, ℕ, ◌<◌, ℤ}
 use Rattle.shapes.specs.declared.Span.{Span}
 use Rattle.shapes.specs.Spans.{Covers}
-use Rattle.route_joins.specs.Joins.{openCount}
+use Rattle.route_joins.specs.Joins.{open_count}
 use Rattle.scanline_intersections.specs.declared.Intersections.{Intersections}
 use Rattle.scanline_intersections.specs.declared.Merged.{Merged}
-use Rattle.scanline_intersections.specs.Segments.{spanAt}
+use Rattle.scanline_intersections.specs.Segments.{span_at}
 
 -- one of the spans has the column
 pub data Covered (c : ℤ) : List Span → Type 0 where
@@ -15,8 +15,8 @@ pub data Covered (c : ℤ) : List Span → Type 0 where
 -- a segment of the open route has the column on the row
 pub record OnSegment (cs : List ℤ) (w row c : ℤ) : Type 0 where
   pub place : ℕ
-  pub inside : place < openCount cs
-  pub covers : Covers (spanAt cs w row place) c
+  pub inside : place < open_count cs
+  pub covers : Covers (span_at cs w row place) c
 
 -- `next`, asked again and again with the walk that it answered last, is never refused, hands out these spans, and from then on says that
 -- there is none: the same answer for ever

@@ -1,10 +1,10 @@
 //! The next merged span of a walk, of a list, a width and joins that are known to be within the limits.
 ghost use Rattle.std.specs.Prelude.{◌≡◌, true, false, []};
-ghost use Rattle.shapes.specs.Limits.{strokeLimit, lineLimit};
+ghost use Rattle.shapes.specs.Limits.{stroke_limit, line_limit};
 ghost use Rattle.shapes.specs.Strokes.{Thin};
 ghost use Rattle.coordinates.specs.Refusal.{AllWithin};
-ghost use Rattle.route_joins.specs.Joins.{areJoinsNear};
-ghost use Rattle.scanline_intersections.specs.Merging.{mergedNext, nextMerged};
+ghost use Rattle.route_joins.specs.Joins.{are_joins_near};
+ghost use Rattle.scanline_intersections.specs.Merging.{merged_next, next_merged};
 
 use crate::{Intersections, Merged};
 use route_joins::inner::{segment_count, segment_of};
@@ -14,7 +14,7 @@ use thick_segment::inner::span as span_on;
 
 /// What is handed out past the last segment: what was gathered, if it is not empty.
 fn hand_out(place: usize, width: i64, gathered: Span) -> Merged
-    ensures { result ≡ mergedNext place width gathered [] }
+    ensures { result ≡ merged_next place width gathered [] }
 {
     let handed = try_take(gathered);
     let found = handed.taken;
@@ -35,10 +35,10 @@ fn hand_out(place: usize, width: i64, gathered: Span) -> Merged
 
 /// The next merged span of the segments from the walk's place on, and the walk after it.
 pub fn merge(coordinates: &[i64], walk: Intersections) -> Merged
-    requires all_within { AllWithin strokeLimit coordinates.now }
+    requires all_within { AllWithin stroke_limit coordinates.now }
     requires thin { Thin walk.width }
-    requires width_value { areJoinsNear lineLimit false coordinates.now walk.width ≡ true }
-    ensures { result ≡ nextMerged coordinates.now walk }
+    requires width_value { are_joins_near line_limit false coordinates.now walk.width ≡ true }
+    ensures { result ≡ next_merged coordinates.now walk }
 {
     let width = walk.width;
     let mut place = walk.place;

@@ -1,9 +1,9 @@
 //! The polyline's walk along one row: its segments, and the spans of the segments on the row, merged while they overlap or are
 //! adjacent. `polyline/scanline_intersections.rs`, with 01's rule W6.
 ghost use Rattle.std.specs.Prelude.{◌≡◌};
-ghost use Rattle.route_joins.specs.Steps.{stepValues};
-ghost use Rattle.shapes.specs.Limits.{panel as panelLimits};
-ghost use Rattle.scanline_intersections.specs.Answers.{startRefusal, polylineStart, polylineStep, afterPolyline, nextVerdict, nextAnswer};
+ghost use Rattle.route_joins.specs.Steps.{step_values};
+ghost use Rattle.shapes.specs.Limits.{panel as panel_limits};
+ghost use Rattle.scanline_intersections.specs.Answers.{start_refusal, polyline_start, polyline_step, after_polyline, next_verdict, next_answer};
 
 pub mod inner; // inner.rt: the next merged span, without the tests
 
@@ -62,7 +62,7 @@ struct Verdict {
 /// A walk along the segments of an open route on a row. The list and the width are refused with 1 to 4 and 12; then a row outside
 /// 4,095 with 6.
 pub fn start(coordinates: &[i64], width: i64, row: i64) -> Started
-    ensures { result ≡ polylineStart panelLimits coordinates.now width row }
+    ensures { result ≡ polyline_start panel_limits coordinates.now width row }
 {
     let number = start_refusal(coordinates, width, row);
     if number == 0 {
@@ -97,8 +97,8 @@ pub fn start(coordinates: &[i64], width: i64, row: i64) -> Started
 /// width are refused with 1 to 4 and 12; then a segment of which a join has a corner beyond 4,095 with 5, at the position of the
 /// first that has: the walk then stays where it is. The gathered span and its row are not looked at.
 pub fn next_segment(coordinates: &[i64], walk: Intersections) -> Stepped
-    ensures answers { stepValues result.step ≡ polylineStep panelLimits coordinates.now walk }
-    ensures moves { result.walk ≡ afterPolyline panelLimits coordinates.now walk }
+    ensures answers { step_values result.step ≡ polyline_step panel_limits coordinates.now walk }
+    ensures moves { result.walk ≡ after_polyline panel_limits coordinates.now walk }
 {
     let place = walk.place;
     let width = walk.width;
@@ -121,7 +121,7 @@ pub fn next_segment(coordinates: &[i64], walk: Intersections) -> Stepped
 /// join has a corner beyond 4,095 with 5, at the position of the first that has; then a row of the walk's span outside 4,095 with
 /// 6; then a column of that span outside with 7.
 pub fn next(coordinates: &[i64], walk: Intersections) -> Merged
-    ensures { result ≡ nextAnswer panelLimits coordinates.now walk }
+    ensures { result ≡ next_answer panel_limits coordinates.now walk }
 {
     let verdict = next_verdict(coordinates, walk);
     if verdict.refusal == 0 {
@@ -142,7 +142,7 @@ pub fn next(coordinates: &[i64], walk: Intersections) -> Merged
 
 /// The refusal of a start, 0 where there is none: 1 to 4, 12, then 6.
 fn start_refusal(coordinates: &[i64], width: i64, row: i64) -> u64
-    ensures { result ≡ startRefusal panelLimits coordinates.now width row }
+    ensures { result ≡ start_refusal panel_limits coordinates.now width row }
 {
     let number = refusal(coordinates, width, false);
     if number != 0 {
@@ -154,7 +154,7 @@ fn start_refusal(coordinates: &[i64], width: i64, row: i64) -> u64
 /// The refusal of a walk whose next merged span is asked for: 1 to 4, 12, then 5, then 6 and 7, with which `try_take` refuses the
 /// walk's span.
 fn next_verdict(coordinates: &[i64], walk: Intersections) -> Verdict
-    ensures { result ≡ nextVerdict panelLimits coordinates.now walk }
+    ensures { result ≡ next_verdict panel_limits coordinates.now walk }
 {
     let width = walk.width;
     let number = refusal(coordinates, width, false);

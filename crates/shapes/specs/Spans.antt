@@ -1,7 +1,7 @@
 -- 01, "The board" and the numbers 6 and 7: a span's columns, when it is empty, and when it is inside the columns.
 use Rattle.std.specs.Prelude.{Bool, ◌&&◌, ◌||◌, ℕ, ℤ, pos, ◌-ℤ◌, ◌≤ℤ◌, ◌<ℤ◌}
 use Rattle.std.specs.Int.Signed.{le_z}
-use Rattle.whole.specs.Number.{Within, isWithin}
+use Rattle.whole.specs.Number.{Within, is_within}
 use Rattle.shapes.specs.declared.Span.{Span}
 
 abbrev pub span_of : ℤ → ℤ → ℤ → Span
@@ -21,5 +21,5 @@ abbrev pub SpanSound : ℕ → Span → Type 0
 SpanSound k s = (c : ℤ) → Covers s c → Within c k
 
 -- the test for that: the first and the last column of a span that is not empty are
-unfoldable pub isSpanSound : ℕ → Span → Bool
-isSpanSound k s = is_empty s || (isWithin k s.start && isWithin k (s.end -ℤ pos 1))
+unfoldable pub is_span_sound : ℕ → Span → Bool
+is_span_sound k s = is_empty s || (is_within k s.start && is_within k (s.end -ℤ pos 1))

@@ -1,8 +1,8 @@
 //! The numbers that bound the work, each once. The same table, for the contracts, is specs/Limits.antt. A contract cannot
 //! cite a constant, so each constant has a function that is proved to answer the number of that table.
 ghost use Rattle.std.specs.Prelude.{◌≡◌, pos};
-ghost use Rattle.shapes.specs.Limits.{pointLimit, crossingLimit, widthLimit, routePoints, cornerLimit, boardRuns};
-ghost use Rattle.shapes.specs.Limits.{panel as panelLimits};
+ghost use Rattle.shapes.specs.Limits.{point_limit, crossing_limit, width_limit, route_points, corner_limit, board_runs};
+ghost use Rattle.shapes.specs.Limits.{panel as panel_limits};
 
 /// What coordinates and rows are held against: a route point, a line at the crossing's own entry, and a join's corner, a row
 /// or a column, each from minus its limit to its limit.
@@ -32,44 +32,44 @@ pub const CORNER: u32 = 4095;
 pub const BOARD_RUNS: usize = 32;
 
 fn point() -> u32
-    ensures { result ≡ pointLimit }
+    ensures { result ≡ point_limit }
 {
     POINT
 }
 
 fn crossing() -> u32
-    ensures { result ≡ crossingLimit }
+    ensures { result ≡ crossing_limit }
 {
     CROSSING
 }
 
 fn width() -> i64
-    ensures { result ≡ pos widthLimit }
+    ensures { result ≡ pos width_limit }
 {
     WIDTH
 }
 
 fn route_points() -> usize
-    ensures { result ≡ routePoints }
+    ensures { result ≡ route_points }
 {
     ROUTE_POINTS
 }
 
 fn corner() -> u32
-    ensures { result ≡ cornerLimit }
+    ensures { result ≡ corner_limit }
 {
     CORNER
 }
 
 fn board_runs() -> usize
-    ensures { result ≡ boardRuns }
+    ensures { result ≡ board_runs }
 {
     BOARD_RUNS
 }
 
 /// The limits of a panel, for whoever holds more than one number against them.
 pub fn panel() -> Limits
-    ensures { result ≡ panelLimits }
+    ensures { result ≡ panel_limits }
 {
     Limits {
         point: POINT,

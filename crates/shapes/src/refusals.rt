@@ -1,8 +1,8 @@
 //! What each refusal's number says. 0 is none. Each constant has a function that is proved to answer the number of
 //! specs/Refusals.antt.
 ghost use Rattle.std.specs.Prelude.{◌≡◌};
-ghost use Rattle.shapes.specs.Refusals.{formRefused, oddRefused, pointsRefused, widthRefused, coordinateRefused};
-ghost use Rattle.shapes.specs.Refusals.{doubledRefused, cornerRefused, rowRefused, columnRefused, roomRefused, orElse};
+ghost use Rattle.shapes.specs.Refusals.{form_refused, odd_refused, points_refused, width_refused, coordinate_refused};
+ghost use Rattle.shapes.specs.Refusals.{doubled_refused, corner_refused, row_refused, column_refused, room_refused, or_else};
 
 /// A route file's form is wrong.
 pub const FORM: u64 = 9;
@@ -35,68 +35,68 @@ pub const COLUMN: u64 = 7;
 pub const ROOM: u64 = 8;
 
 fn form() -> u64
-    ensures { result ≡ formRefused }
+    ensures { result ≡ form_refused }
 {
     FORM
 }
 
 fn odd() -> u64
-    ensures { result ≡ oddRefused }
+    ensures { result ≡ odd_refused }
 {
     ODD
 }
 
 fn points() -> u64
-    ensures { result ≡ pointsRefused }
+    ensures { result ≡ points_refused }
 {
     POINTS
 }
 
 fn width() -> u64
-    ensures { result ≡ widthRefused }
+    ensures { result ≡ width_refused }
 {
     WIDTH
 }
 
 fn coordinate() -> u64
-    ensures { result ≡ coordinateRefused }
+    ensures { result ≡ coordinate_refused }
 {
     COORDINATE
 }
 
 fn doubled() -> u64
-    ensures { result ≡ doubledRefused }
+    ensures { result ≡ doubled_refused }
 {
     DOUBLED
 }
 
 fn corner() -> u64
-    ensures { result ≡ cornerRefused }
+    ensures { result ≡ corner_refused }
 {
     CORNER
 }
 
 fn row() -> u64
-    ensures { result ≡ rowRefused }
+    ensures { result ≡ row_refused }
 {
     ROW
 }
 
 fn column() -> u64
-    ensures { result ≡ columnRefused }
+    ensures { result ≡ column_refused }
 {
     COLUMN
 }
 
 fn room() -> u64
-    ensures { result ≡ roomRefused }
+    ensures { result ≡ room_refused }
 {
     ROOM
 }
 
 /// The first of two refusals, or 0 where neither is one.
 pub fn or_else(first: u64, second: u64) -> u64
-    ensures { result ≡ orElse first second }
+    ensures { result ≡ or_else first second }
 {
     if first == 0 {
         return second;

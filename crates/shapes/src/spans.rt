@@ -1,6 +1,6 @@
 //! Whether a span is empty, and whether it is inside the columns.
 ghost use Rattle.std.specs.Prelude.{◌≡◌};
-ghost use Rattle.shapes.specs.Spans.{is_empty, isSpanSound};
+ghost use Rattle.shapes.specs.Spans.{is_empty, is_span_sound};
 
 use crate::Span;
 use whole::inner::{both, within};
@@ -14,7 +14,7 @@ pub fn is_empty(span: Span) -> bool
 
 /// Whether all columns of a span are from `-limit` to `limit`; so it is where there is none.
 pub fn is_sound(span: Span, limit: u32) -> bool
-    ensures { result ≡ isSpanSound limit span }
+    ensures { result ≡ is_span_sound limit span }
 {
     let start = span.start;
     let end = span.end;

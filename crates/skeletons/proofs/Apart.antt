@@ -12,7 +12,7 @@ use Rattle.whole.proofs.Squares.{two-squares}
 use Rattle.shapes.specs.declared.Side.{Side}
 use Rattle.shapes.specs.declared.Side.TheVariants.{Left, Right}
 use Rattle.parallels.specs.Parallels.{swapped, falls}
-use Rattle.skeletons.specs.Treads.{Tread, Mark, Trod, March, Arrived, treadOf, mark_of, due_at, kept_at, trodBy, trod, stepped, arrivedAt, march, setOut, most_of, marched}
+use Rattle.skeletons.specs.Treads.{Tread, Mark, Trod, March, Arrived, tread_of, mark_of, due_at, kept_at, trod_by, trod, stepped, arrived_at, march, set_out, most_of, marched}
 
 -- what is paid for a parallel: how much farther its side stands after it
 abbrev price : ℕ → ℕ → Bool → ℕ
@@ -51,10 +51,10 @@ module _ (a b : ℕ) where
       by (suc c) z = omega arith
 
   fared : (side : Side) (falling : Bool) (t : Tread) → 1 ≤ a → Fair t.n t.e → Fared t (trod a b side falling t)
-  unfolding trod trodBy
+  unfolding trod trod_by
   fared side falling t some h = by (due_at a b side t.n t.e) (kept_at a b falling t.e t.k) refl
     where
-      by : (x y : Bool) → due_at a b side t.n t.e ≡ x → Fared t (trodBy a b x y t)
+      by : (x y : Bool) → due_at a b side t.n t.e ≡ x → Fared t (trod_by a b x y t)
       by false y d =
           record {
             follows = record { fairly = record { few = h; late = λ x. absurd (false≢true x) }; few = record { fair = omega arith }; beyond = omega arith };
@@ -95,7 +95,7 @@ module _ (a b : ℕ) where
   twice-price true = refl
   twice-price false = refl
 
-  paid-at : (most : ℕ) (side : Side) (s : March) → Paid s → most < s.sum * s.sum → PaidFor most (arrivedAt side s)
+  paid-at : (most : ℕ) (side : Side) (s : March) → Paid s → most < s.sum * s.sum → PaidFor most (arrived_at side s)
   paid-at most Left s p h = record { left-fairly = p.this-follows.fairly; right-fairly = p.other-follows.fairly; paid = omega (arith, p.paid, p.this-follows.beyond, p.other-follows.beyond); over = h }
   paid-at most Right s p h = record { left-fairly = p.other-follows.fairly; right-fairly = p.this-follows.fairly; paid = omega (arith, p.paid, p.this-follows.beyond, p.other-follows.beyond); over = h }
 
@@ -121,7 +121,7 @@ module _ (a b : ℕ) where
 
 -- both sides one step beyond the line
 abbrev pub onward : ℕ → ℕ → March
-onward a b = record { this = treadOf 1 0 0; other = treadOf 1 0 0; here = mark_of 0 0 false; there = mark_of 0 0 false; sum = a + b + 2 * a }
+onward a b = record { this = tread_of 1 0 0; other = tread_of 1 0 0; here = mark_of 0 0 false; there = mark_of 0 0 false; sum = a + b + 2 * a }
 
 module _ {a b w : ℕ} (some : 1 ≤ a) (less : b ≤ a) (wide : 1 ≤ w) (flip : Bool) where
   abbrev most : ℕ
@@ -134,8 +134,8 @@ module _ {a b w : ℕ} (some : 1 ≤ a) (less : b ≤ a) (wide : 1 ≤ w) (flip 
   one_follows : (a + b) * (a + b) ≤ most
   one_follows = omega (arith, four, two-squares a b)
 
-  first_step : stepped a b flip Right (setOut a b) ≡ onward a b
-  unfolding stepped trod trodBy
+  first_step : stepped a b flip Right (set_out a b) ≡ onward a b
+  unfolding stepped trod trod_by
   first_step = let test : leb (2 * a * 0 + a) (2 * b * 0) ≡ false = lt-leb (2 * a * 0 + a) (2 * b * 0) (omega arith) in rw test
 
   pub first-marched : marched a b flip w ≡ march (most - (a + b)) a b flip most Left (onward a b)
@@ -146,7 +146,7 @@ module _ {a b w : ℕ} (some : 1 ≤ a) (less : b ≤ a) (wide : 1 ≤ w) (flip 
 
   onward-paid : Paid a b (onward a b)
   onward-paid =
-      let follows : Follows a b (mark_of 0 0 false) (treadOf 1 0 0) = record { fairly = record { few = record { fair = omega arith }; late = λ x. absurd (false≢true x) }; few = record { fair = omega arith }; beyond = omega arith } in
+      let follows : Follows a b (mark_of 0 0 false) (tread_of 1 0 0) = record { fairly = record { few = record { fair = omega arith }; late = λ x. absurd (false≢true x) }; few = record { fair = omega arith }; beyond = omega arith } in
       record { this-follows = follows; other-follows = follows; paid = omega arith }
 
   pub paid_for : PaidFor a b most (marched a b flip w)

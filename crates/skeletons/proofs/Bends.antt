@@ -14,7 +14,7 @@ use Rattle.shapes.specs.declared.Point.{Point}
 use Rattle.shapes.specs.declared.Line.{Line}
 use Rattle.shapes.specs.declared.Side.{Side}
 use Rattle.shapes.specs.declared.Side.TheVariants.{Left, Right}
-use Rattle.shapes.specs.Shape.{line_of, minus, dotProduct}
+use Rattle.shapes.specs.Shape.{line_of, minus, dot_product}
 use Rattle.parallels.specs.Parallels.{swapped, aimed}
 use Rattle.skeletons.specs.Treads.{Mark, marched}
 use Rattle.skeletons.proofs.Apart.{gap-wide, two_steps}
@@ -24,9 +24,9 @@ use Rattle.skeletons.proofs.Frames.{major, minor, reduce, Sizes, sizes, one-step
 use Rattle.skeletons.proofs.Marches.{larger, smaller}
 use Rattle.skeletons.proofs.Outward.{one-outward, other-side}
 use Rattle.skeletons.proofs.Sights.{Reached, Normal, Sighted, normal, extra}
-use Rattle.skeletons.proofs.Small.{isExcepted}
+use Rattle.skeletons.proofs.Small.{is_excepted}
 use Rattle.skeletons.proofs.Starts.{starts_apart}
-use Rattle.skeletons.proofs.Strokes.{Fits, flip, counts, markAt, edge, step, along, aside, off, Solid, some, less, short, seen_start, seen_end, ends_at}
+use Rattle.skeletons.proofs.Strokes.{Fits, flip, counts, mark_at, edge, step, along, aside, off, Solid, some, less, short, seen_start, seen_end, ends_at}
 use Rattle.skeletons.proofs.Together.{both-normal, normal-beside, extra-beside}
 
 -- ---- where edges end
@@ -73,27 +73,27 @@ module _ {l : Line} {w : ℕ} (fits : Fits l w) (three : 3 ≤ w) where
       let x = along l Left (edge l w Left).end l.end in
       let p = (ends_at fits wide Left).major-at in
       let q = ap (λ z. along l Right z l.end) same ∙ (ends_at fits wide Right).major-at in
-      let t = off (markAt l w Left).extra s in
-      let u = off (markAt l w Right).extra (neg_ℤ s) in
-      let few = offs-most (markAt l w Left).extra (markAt l w Right).extra s (one Left) in
-      omega (linear, two-apart, few, p, q, diff (pos (markAt l w Left).n) t, diff (pos (markAt l w Right).n) u, opp x, sum t u, abs-parts (t +ℤ u))
+      let t = off (mark_at l w Left).extra s in
+      let u = off (mark_at l w Right).extra (neg_ℤ s) in
+      let few = offs-most (mark_at l w Left).extra (mark_at l w Right).extra s (one Left) in
+      omega (linear, two-apart, few, p, q, diff (pos (mark_at l w Left).n) t, diff (pos (mark_at l w Right).n) u, opp x, sum t u, abs-parts (t +ℤ u))
 
-  two-on : (side : Side) → 2 ≤ (markAt l w side).n + (markAt l w (swapped side)).n
+  two-on : (side : Side) → 2 ≤ (mark_at l w side).n + (mark_at l w (swapped side)).n
   two-on Left = two-apart
   two-on Right = omega (arith, two-apart)
 
   -- where the one ends the other does not come to the square
   pub one_end : (side : Side) → Touches (edge l w (swapped side)) (edge l w side).end → Solid l w (swapped side) → ⊥
   one_end side h solid =
-      let m = markAt l w side in
+      let m = mark_at l w side in
       let z = (edge l w side).end in
       let s = step l side in
       let t = off m.extra s in
       let at = ends_at fits wide side in
-      let x-is = other-side side (dotProduct (major (aimed l)) (minus z l.end)) ∙ ap neg_ℤ at.major-at in
-      let y-is = other-side side (dotProduct (minor (aimed l)) (minus z l.end)) ∙ ap neg_ℤ at.minor-at in
-      let s-is = other-side side (dotProduct (major (aimed l)) (reduce (aimed l))) in
-      beside (larger l) (smaller l) m.n m.e (markAt l w (swapped side)) t (neg_ℤ s) (some fits) (less l) (two-on side) (off-most m.extra s (one side)) (offs-most m.extra true s (one side))
+      let x-is = other-side side (dot_product (major (aimed l)) (minus z l.end)) ∙ ap neg_ℤ at.major-at in
+      let y-is = other-side side (dot_product (minor (aimed l)) (minus z l.end)) ∙ ap neg_ℤ at.minor-at in
+      let s-is = other-side side (dot_product (major (aimed l)) (reduce (aimed l))) in
+      beside (larger l) (smaller l) m.n m.e (mark_at l w (swapped side)) t (neg_ℤ s) (some fits) (less l) (two-on side) (off-most m.extra s (one side)) (offs-most m.extra true s (one side))
       (λ x. (short fits wide (swapped side) x, solid.long x))
       (rw (x-is, y-is, s-is) at (seen_end fits wide (swapped side) solid.aim h))
 
@@ -131,7 +131,7 @@ module _ (c b w : ℕ) (flip : Bool) (x y : ℤ) (some : 1 ≤ c) (less : b ≤ 
   module _ (most : w ≤ 64) (reach : Reached w x y) (unless : Excepted c b w flip → ⊥) where
     start-by : Deltas c b → Sighted c b x y (pos 0) l → Sighted c b (neg_ℤ x) (neg_ℤ y) (pos 0) r → ⊥
     start-by d h k =
-        let other : flip ≡ true → isExcepted d.over d.more w ≡ false = λ t. else-false (isExcepted d.over d.more w) (λ o. let is = excepted-is d.over d.more w o in unless (omega (arith, d.larger-is), (omega (arith, d.smaller-is), (is.1.1, t)))) in
+        let other : flip ≡ true → is_excepted d.over d.more w ≡ false = λ t. else-false (is_excepted d.over d.more w) (λ o. let is = excepted-is d.over d.more w o in unless (omega (arith, d.larger-is), (omega (arith, d.smaller-is), (is.1.1, t)))) in
         starts_apart d.over d.more w flip three most x y reach d.long other (rw (d.larger-is, d.smaller-is) at h) (rw (d.larger-is, d.smaller-is) at k)
 
     start-never : Lengthy c b l → Lengthy c b r → Sighted c b x y (pos 0) l → Sighted c b (neg_ℤ x) (neg_ℤ y) (pos 0) r → ⊥
@@ -184,7 +184,7 @@ module _ {p q r : Point} {w : ℕ} (first_fits : Fits (line_of p q) w) (second_f
   one-wide : 1 ≤ w
   one-wide = omega arith
 
-  lengthy : {j : Line} → Fits j w → (side : Side) → Solid j w side → Lengthy (larger j) (smaller j) (markAt j w side)
+  lengthy : {j : Line} → Fits j w → (side : Side) → Solid j w side → Lengthy (larger j) (smaller j) (mark_at j w side)
   lengthy fits side solid x = (short fits one-wide side x, solid.long x)
 
   -- how far z is from the bend along the axes across a leg
@@ -197,10 +197,10 @@ module _ {p q r : Point} {w : ℕ} (first_fits : Fits (line_of p q) w) (second_f
   reach_of : (j : Line) → Reached w (x j) (y j)
   reach_of j = reach-by (nat_abs (x j)) (nat_abs (y j)) (2 * w * (2 * w)) (minus z q) (sizes (aimed j) (minus z q)) reach
 
-  second-sees : (side : Side) → Sighted (larger second) (smaller second) (along second side z q) (aside second side z q) (pos 0) (markAt second w side)
+  second-sees : (side : Side) → Sighted (larger second) (smaller second) (along second side z q) (aside second side z q) (pos 0) (mark_at second w side)
   second-sees side = seen_start second_fits one-wide side (after side).1.aim (after side).0
 
-  first-sees : (side : Side) → Sighted (larger first) (smaller first) (along first side z q) (aside first side z q) (step first side) (markAt first w side)
+  first-sees : (side : Side) → Sighted (larger first) (smaller first) (along first side z q) (aside first side z q) (step first side) (mark_at first w side)
   first-sees side = seen_end first_fits one-wide side (before side).1.aim (before side).0
 
   -- the leg that is excepted after the bend, and any leg before it

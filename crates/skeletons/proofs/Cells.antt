@@ -18,7 +18,7 @@ use Rattle.shapes.specs.Shape.{line_of, minus, determinant, delta}
 use Rattle.shapes.proofs.Laws.{point-is}
 use Rattle.intersection_params.specs.declared.Solution.{Solution}
 use Rattle.intersection_params.specs.declared.Intersection.TheVariants.{At}
-use Rattle.intersection_params.specs.Crossing.{solutionOf, nearlyColinear}
+use Rattle.intersection_params.specs.Crossing.{solution_of, nearly_colinear}
 use Rattle.intersection_params.specs.Words.{OnLine, TrueCrossing, IsDrawn}
 use Rattle.intersection_params.proofs.Laws.{solution-true}
 use Rattle.line_join.specs.Join.{meet}
@@ -48,10 +48,10 @@ touches-nearest l t p some on x y =
 
 module _ {first second : Line} {p : Point} {s : Side} (h : IsDrawn first second p s) where
   pub first-touches : Touches first p
-  first-touches = let t = solution-true first second h.crosses in touches-nearest first (solutionOf first second) p t.some t.on-first (h.nearest-x _ t) (h.nearest-y _ t)
+  first-touches = let t = solution-true first second h.crosses in touches-nearest first (solution_of first second) p t.some t.on_first (h.nearest_x _ t) (h.nearest_y _ t)
 
   pub second-touches : Touches second p
-  second-touches = let t = solution-true first second h.crosses in touches-nearest second (solutionOf first second) p t.some t.on-second (h.nearest-x _ t) (h.nearest-y _ t)
+  second-touches = let t = solution-true first second h.crosses in touches-nearest second (solution_of first second) p t.some t.on_second (h.nearest_x _ t) (h.nearest_y _ t)
 
 -- ---- a line and one that begins at its end are drawn to cross there
 
@@ -65,19 +65,19 @@ module _ (a b c : Point) where
   end-crosses =
       record {
         some = λ e. let z : ◌≡◌ {A = ℕ} 1 0 = ap nat_abs e in omega arith;
-        on-first = ring 4 (λ x y u v. (u ⊖ x) ⊗ (y ⊖ con (pos 1) ⊗ y) ⊖ (v ⊖ y) ⊗ (x ⊖ con (pos 1) ⊗ x) ≈ con (pos 0)) refl b.x b.y c.x c.y;
-        on-second = ring 4 (λ x y u v. (x ⊖ u) ⊗ (y ⊖ con (pos 1) ⊗ v) ⊖ (y ⊖ v) ⊗ (x ⊖ con (pos 1) ⊗ u) ≈ con (pos 0)) refl b.x b.y a.x a.y;
+        on_first = ring 4 (λ x y u v. (u ⊖ x) ⊗ (y ⊖ con (pos 1) ⊗ y) ⊖ (v ⊖ y) ⊗ (x ⊖ con (pos 1) ⊗ x) ≈ con (pos 0)) refl b.x b.y c.x c.y;
+        on_second = ring 4 (λ x y u v. (x ⊖ u) ⊗ (y ⊖ con (pos 1) ⊗ v) ⊖ (y ⊖ v) ⊗ (x ⊖ con (pos 1) ⊗ u) ≈ con (pos 0)) refl b.x b.y a.x a.y;
       }
 
   pub drawn-end : {p : Point} {s : Side} → IsDrawn (line_of b c) (line_of a b) p s → p ≡ b
-  drawn-end d = point-is (nearest-whole (d.nearest-x solved end-crosses)) (nearest-whole (d.nearest-y solved end-crosses))
+  drawn-end d = point-is (nearest-whole (d.nearest_x solved end-crosses)) (nearest-whole (d.nearest_y solved end-crosses))
 
 -- ---- where two edges meet: at the end of the second, or where they are drawn to cross
 
 module _ (j l : Line) {p : Point} {s : Side} where
-  met_by : (t : Bool) → nearlyColinear j l ≡ t → meet j l ≡ At p s → (p ≡ l.end) ⊎ IsDrawn j l p s
-  met_by true e m = inl ((meet-ended j l p s e).0 m).at-end
+  met_by : (t : Bool) → nearly_colinear j l ≡ t → meet j l ≡ At p s → (p ≡ l.end) ⊎ IsDrawn j l p s
+  met_by true e m = inl ((meet-ended j l p s e).0 m).at_end
   met_by false e m = inr ((meet-drawn j l p s e).0 m)
 
   pub met_at : meet j l ≡ At p s → (p ≡ l.end) ⊎ IsDrawn j l p s
-  met_at = met_by (nearlyColinear j l) refl
+  met_at = met_by (nearly_colinear j l) refl

@@ -16,10 +16,10 @@ use Rattle.intersection_params.specs.declared.Intersection.{Intersection}
 use Rattle.intersection_params.specs.declared.Intersection.TheVariants.{At, Colinear}
 use Rattle.intersection_params.specs.Words.{bend, IsDrawn}
 use Rattle.extents.specs.declared.Edges.{Edges}
-use Rattle.extents.specs.Edges.{extentsOf}
+use Rattle.extents.specs.Edges.{extents_of}
 use Rattle.line_join.specs.declared.Join.{Join}
 use Rattle.line_join.specs.Miter.{reaches}
-use Rattle.line_join.specs.Join.{meet, cornersOf, outer, cut, overlapping, bentAt, bentLeft, bentOf, join_of}
+use Rattle.line_join.specs.Join.{meet, corners_of, outer, cut, overlapping, bent_at, bent_left, bent_of, join_of}
 use Rattle.skeletons.proofs.Cells.{Touches, first-touches, second-touches, met_at}
 use Rattle.skeletons.proofs.Strokes.{Fits, edge, Solid, solid}
 
@@ -52,34 +52,34 @@ module _ (p q r : Point) (w : ℕ) where
   corner side s m = ⊎_elim (λ e. ended e) (λ d. drawn d) (met_at (second side) (first side) m)
 
   abbrev F : Edges
-  F = extentsOf (line_of p q) (pos w) None
+  F = extents_of (line_of p q) (pos w) None
 
   abbrev S : Edges
-  S = extentsOf (line_of q r) (pos w) None
+  S = extents_of (line_of q r) (pos w) None
 
   -- a join whose corners are apart, whichever they are
   pub record Parts : Type 0 where
     pub ends : (first Left).end ≡ (first Right).end → ⊥
-    pub kept : (s : Side) {l t : Point} → reaches q (outer s (cornersOf l t)) (pos w) ≡ true → Corner Left l → Corner Right t → l ≡ t → ⊥
+    pub kept : (s : Side) {l t : Point} → reaches q (outer s (corners_of l t)) (pos w) ≡ true → Corner Left l → Corner Right t → l ≡ t → ⊥
     pub left_cut : {t : Point} → Corner Right t → (first Left).end ≡ t → ⊥
     pub right-cut : {l : Point} → Corner Left l → l ≡ (first Right).end → ⊥
 
   module _ (parts : Parts) where
-    cut_apart : (s : Side) {l t : Point} → Corner Left l → Corner Right t → Apart (cut s (cornersOf l t) F S)
+    cut_apart : (s : Side) {l t : Point} → Corner Left l → Corner Right t → Apart (cut s (corners_of l t) F S)
     cut_apart Left h k = parts.left_cut k
     cut_apart Right h k = parts.right-cut h
 
-    bent-apart : (x y : Intersection) → meet S.left F.left ≡ x → meet S.right F.right ≡ y → Apart (bentLeft x y F S q (pos w))
-    unfolding bentAt
+    bent-apart : (x y : Intersection) → meet S.left F.left ≡ x → meet S.right F.right ≡ y → Apart (bent_left x y F S q (pos w))
+    unfolding bent_at
     bent-apart Colinear y e f = parts.ends
     bent-apart (At l s) Colinear e f = parts.ends
     bent-apart (At l s) (At t u) e f =
         let left = corner Left s e in
         let right = corner Right u f in
-        either Apart (overlapping s F S) (λ _. parts.ends) (λ _. either Apart (reaches q (outer s (cornersOf l t)) (pos w)) (λ near. parts.kept s near left right) (λ _. cut_apart s left right))
+        either Apart (overlapping s F S) (λ _. parts.ends) (λ _. either Apart (reaches q (outer s (corners_of l t)) (pos w)) (λ near. parts.kept s near left right) (λ _. cut_apart s left right))
 
     pub join_apart : Apart (join_of p q r (pos w) None)
-    unfolding join_of bentOf
+    unfolding join_of bent_of
     join_apart = bent-apart (meet S.left F.left) (meet S.right F.right) refl refl
 
 -- edges that cross come to the square round the corner, and have a length

@@ -9,10 +9,10 @@ use lib.Dec.{ltb}
 use Rattle.whole.proofs.Squares.{two-squares}
 use Rattle.shapes.specs.declared.Side.{Side}
 use Rattle.shapes.specs.declared.Side.TheVariants.{Left, Right}
-use Rattle.skeletons.specs.Treads.{March, Arrived, treadOf, mark_of, kept_at, trod, trodBy, stepped, arrivedAt, march, most_of, marched}
+use Rattle.skeletons.specs.Treads.{March, Arrived, tread_of, mark_of, kept_at, trod, trod_by, stepped, arrived_at, march, most_of, marched}
 use Rattle.skeletons.proofs.Apart.{first-marched, onward}
 
-march-done : (n a b : ℕ) (flip : Bool) (most : ℕ) (side : Side) (s : March) → ltb most (s.sum * s.sum) ≡ true → march n a b flip most side s ≡ arrivedAt side s
+march-done : (n a b : ℕ) (flip : Bool) (most : ℕ) (side : Side) (s : March) → ltb most (s.sum * s.sum) ≡ true → march n a b flip most side s ≡ arrived_at side s
 unfolding march
 march-done zero a b flip most side s e = refl
 march-done (suc n) a b flip most side s e = rw e
@@ -40,13 +40,13 @@ module _ {a b : ℕ} (some : 1 ≤ a) (less : b ≤ a) (flip : Bool) where
 
   -- after the first left parallel
   abbrev flatly : March
-  flatly = record { this = treadOf 1 0 0; other = treadOf 2 0 0; here = mark_of 0 0 false; there = mark_of 1 0 false; sum = a + b + 2 * a + 2 * a }
+  flatly = record { this = tread_of 1 0 0; other = tread_of 2 0 0; here = mark_of 0 0 false; there = mark_of 1 0 false; sum = a + b + 2 * a + 2 * a }
 
   abbrev steeply : March
-  steeply = record { this = treadOf 1 0 0; other = treadOf 1 1 1; here = mark_of 0 0 false; there = mark_of 1 0 true; sum = a + b + 2 * a + 2 * b }
+  steeply = record { this = tread_of 1 0 0; other = tread_of 1 1 1; here = mark_of 0 0 false; there = mark_of 1 0 true; sum = a + b + 2 * a + 2 * b }
 
   second-by : (n : ℕ) (x : Bool) → ltb (2 * a * 0 + a) (2 * b * 1) ≡ x → Beside a b (march n a b flip (most_of a b 2) Right (stepped a b flip Left (onward a b)))
-  unfolding stepped trod trodBy
+  unfolding stepped trod trod_by
   second-by n false e =
       let over = lt-ltb (most_of a b 2) ((a + b + 2 * a + 2 * a) * (a + b + 2 * a + 2 * a)) (flat-over (omega (arith, ltb-false (2 * a * 0 + a) (2 * b * 1) e))) in
       let step : stepped a b flip Left (onward a b) ≡ flatly = rw e in

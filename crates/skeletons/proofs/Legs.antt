@@ -12,56 +12,56 @@ use Rattle.whole.proofs.Ring.{con, ◌⊕◌, ◌⊗◌, ◌≈◌, ring}
 use Rattle.whole.proofs.Tests.{either}
 use Rattle.shapes.specs.declared.Point.{Point}
 use Rattle.shapes.specs.declared.Offset.{Offset}
-use Rattle.shapes.specs.Shape.{point_of, dotProduct}
-use Rattle.bresenham.specs.Walk.{directionOf, parametersAlong}
+use Rattle.shapes.specs.Shape.{point_of, dot_product}
+use Rattle.bresenham.specs.Walk.{direction_of, parameters_along}
 use Rattle.bresenham.specs.Walk as Walk
-use Rattle.bresenham.proofs.Laws.{across, down, isSteep, longer, shorter, parameters-are}
-use Rattle.parallels.specs.Parallels.{turnedBack, planAlong}
+use Rattle.bresenham.proofs.Laws.{across, down, is_steep, longer, shorter, parameters-are}
+use Rattle.parallels.specs.Parallels.{turned_back, plan_along}
 use Rattle.skeletons.proofs.Strides.{Gauged, Unit, Measured}
 
 -- ---- directions are 1 or -1
 
-pub direction-square : (z : ℤ) → directionOf z *ℤ directionOf z ≡ pos 1
-unfolding directionOf
+pub direction-square : (z : ℤ) → direction_of z *ℤ direction_of z ≡ pos 1
+unfolding direction_of
 direction-square z = either (λ u. u *ℤ u ≡ pos 1) (lt_z z (pos 0)) (λ _. refl) (λ _. refl)
 
 -- ---- the parameters along a delta
 
-gauged : (c : Point) → Gauged (parametersAlong c) (longer c) (shorter c)
+gauged : (c : Point) → Gauged (parameters_along c) (longer c) (shorter c)
 unfolding Walk.along
 gauged c = rw (parameters-are c) (record { far = refl; gains = refl; loses = refl })
 
 -- ---- steps of one pixel along the axes
 
-along-x : (u : ℤ) → u *ℤ u ≡ pos 1 → dotProduct (point_of u (pos 0)) (point_of u (pos 0)) ≡ pos 1
-unfolding dotProduct
+along-x : (u : ℤ) → u *ℤ u ≡ pos 1 → dot_product (point_of u (pos 0)) (point_of u (pos 0)) ≡ pos 1
+unfolding dot_product
 along-x u e = ring 1 (λ u. u ⊗ u ⊕ con (pos 0) ⊗ con (pos 0) ≈ u ⊗ u) refl u ∙ e
 
-along-y : (u : ℤ) → u *ℤ u ≡ pos 1 → dotProduct (point_of (pos 0) u) (point_of (pos 0) u) ≡ pos 1
-unfolding dotProduct
+along-y : (u : ℤ) → u *ℤ u ≡ pos 1 → dot_product (point_of (pos 0) u) (point_of (pos 0) u) ≡ pos 1
+unfolding dot_product
 along-y u e = ring 1 (λ u. con (pos 0) ⊗ con (pos 0) ⊕ u ⊗ u ≈ u ⊗ u) refl u ∙ e
 
-x-to-y : (u v : ℤ) → dotProduct (point_of u (pos 0)) (point_of (pos 0) v) ≡ pos 0
-unfolding dotProduct
+x-to-y : (u v : ℤ) → dot_product (point_of u (pos 0)) (point_of (pos 0) v) ≡ pos 0
+unfolding dot_product
 x-to-y = ring 2 (λ u v. u ⊗ con (pos 0) ⊕ con (pos 0) ⊗ v ≈ con (pos 0)) refl
 
-y-to-x : (u v : ℤ) → dotProduct (point_of (pos 0) v) (point_of u (pos 0)) ≡ pos 0
-unfolding dotProduct
+y-to-x : (u v : ℤ) → dot_product (point_of (pos 0) v) (point_of u (pos 0)) ≡ pos 0
+unfolding dot_product
 y-to-x = ring 2 (λ u v. con (pos 0) ⊗ u ⊕ v ⊗ con (pos 0) ≈ con (pos 0)) refl
 
 unit-by : (c : Point) (t : Bool) (a b : ℤ) → Unit (Walk.along (cond t (down c) (across c)) (cond t (across c) (down c)) a b)
 unfolding Walk.along
 unit-by c true a b =
-    let u = directionOf c.x in
-    let v = directionOf c.y in
-    record { major-unit = along-y v (direction-square c.y); crossed = y-to-x u v; crossed-back = x-to-y u v; minor-unit = along-x u (direction-square c.x) }
+    let u = direction_of c.x in
+    let v = direction_of c.y in
+    record { major_unit = along-y v (direction-square c.y); crossed = y-to-x u v; crossed-back = x-to-y u v; minor_unit = along-x u (direction-square c.x) }
 unit-by c false a b =
-    let u = directionOf c.x in
-    let v = directionOf c.y in
-    record { major-unit = along-x u (direction-square c.x); crossed = x-to-y u v; crossed-back = y-to-x u v; minor-unit = along-y v (direction-square c.y) }
+    let u = direction_of c.x in
+    let v = direction_of c.y in
+    record { major_unit = along-x u (direction-square c.x); crossed = x-to-y u v; crossed-back = y-to-x u v; minor_unit = along-y v (direction-square c.y) }
 
-unit : (c : Point) → Unit (parametersAlong c)
-unit c = rw (parameters-are c) (unit-by c (isSteep c) (pos (longer c)) (pos (shorter c)))
+unit : (c : Point) → Unit (parameters_along c)
+unit c = rw (parameters-are c) (unit-by c (is_steep c) (pos (longer c)) (pos (shorter c)))
 
 -- ---- the deltas of a line turned by a quarter are the same
 
@@ -71,11 +71,11 @@ back_by m n true false e f = (refl, refl)
 back_by m n false true e f = (refl, refl)
 back_by m n false false e f = (omega (arith, ltb-false m n e, ltb-false n m f), omega (arith, ltb-false m n e, ltb-false n m f))
 
-pub back : (d : Point) → (longer (turnedBack d) ≡ longer d) × (shorter (turnedBack d) ≡ shorter d)
-back d = rw (abs_neg d.x) (back_by (nat_abs d.x) (nat_abs d.y) (isSteep d) (ltb (nat_abs d.y) (nat_abs d.x)) refl refl)
+pub back : (d : Point) → (longer (turned_back d) ≡ longer d) × (shorter (turned_back d) ≡ shorter d)
+back d = rw (abs_neg d.x) (back_by (nat_abs d.x) (nat_abs d.y) (is_steep d) (ltb (nat_abs d.y) (nat_abs d.x)) refl refl)
 
 -- ---- the plan along a delta
 
-pub measured : (d : Point) (width : ℤ) (offset : Offset) → Measured (planAlong d width offset) (longer d) (shorter d)
-unfolding planAlong
-measured d width offset = record { across-is = rw ((back d).0, (back d).1) at (gauged (turnedBack d)); along-is = gauged d; steps = unit (turnedBack d) }
+pub measured : (d : Point) (width : ℤ) (offset : Offset) → Measured (plan_along d width offset) (longer d) (shorter d)
+unfolding plan_along
+measured d width offset = record { across-is = rw ((back d).0, (back d).1) at (gauged (turned_back d)); along-is = gauged d; steps = unit (turned_back d) }

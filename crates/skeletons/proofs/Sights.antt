@@ -13,11 +13,11 @@ use Rattle.shapes.specs.declared.Line.{Line}
 use Rattle.shapes.specs.declared.Side.{Side}
 use Rattle.shapes.specs.declared.Side.TheVariants.{Left, Right}
 use Rattle.shapes.specs.declared.Offset.TheVariants.{None}
-use Rattle.shapes.specs.Shape.{plus, minus, determinant, dotProduct, delta}
+use Rattle.shapes.specs.Shape.{plus, minus, determinant, dot_product, delta}
 use Rattle.bresenham.specs.declared.Parameters.{Parameters}
-use Rattle.bresenham.specs.Walk.{parametersAlong}
+use Rattle.bresenham.specs.Walk.{parameters_along}
 use Rattle.bresenham.proofs.Laws.{longer, shorter}
-use Rattle.parallels.specs.Parallels.{aimed, planAlong, plan_of}
+use Rattle.parallels.specs.Parallels.{aimed, plan_along, plan_of}
 use Rattle.extents.specs.declared.Edge.{Edge}
 use Rattle.extents.specs.Edges.{closed}
 use Rattle.skeletons.specs.Treads.{Mark}
@@ -46,17 +46,17 @@ module _ (d : Point) {l : Line} {z : Point} (m : Touches l z) where
   abbrev b : ℕ
   b = shorter d
 
-  normal-by : (v : Point) → delta l ≡ d → nat_abs (determinant (delta l) v) ≡ nat_abs (determinant (delta l) (minus z l.start)) → Normal a b (dotProduct (major d) v) (dotProduct (minor d) v)
+  normal-by : (v : Point) → delta l ≡ d → nat_abs (determinant (delta l) v) ≡ nat_abs (determinant (delta l) (minus z l.start)) → Normal a b (dot_product (major d) v) (dot_product (minor d) v)
   normal-by v is same =
-      let way = pos a *ℤ dotProduct (major d) v +ℤ pos b *ℤ dotProduct (minor d) v in
+      let way = pos a *ℤ dot_product (major d) v +ℤ pos b *ℤ dot_product (minor d) v in
       let size : nat_abs (delta l).x + nat_abs (delta l).y ≡ a + b = rw is (size_is d) in
       let turned : nat_abs (determinant (delta l) v) ≡ nat_abs way = rw is (ap nat_abs (across-delta d v) ∙ abs_neg way) in
       record { near = omega (arith, m.near, same, turned, size) }
 
-  extra-by : (v : Point) → 1 ≤ b → delta l ≡ minus d (reduce d) → nat_abs (determinant (delta l) v) ≡ nat_abs (determinant (delta l) (minus z l.start)) → Extra a b (dotProduct (major d) v) (dotProduct (minor d) v)
+  extra-by : (v : Point) → 1 ≤ b → delta l ≡ minus d (reduce d) → nat_abs (determinant (delta l) v) ≡ nat_abs (determinant (delta l) (minus z l.start)) → Extra a b (dot_product (major d) v) (dot_product (minor d) v)
   extra-by v some is same =
-      let x = dotProduct (major d) v in
-      let y = dotProduct (minor d) v in
+      let x = dot_product (major d) v in
+      let y = dot_product (minor d) v in
       let way = pos a *ℤ x +ℤ pos b *ℤ y -ℤ (x +ℤ y) in
       let size : nat_abs (delta l).x + nat_abs (delta l).y + 2 ≡ a + b = rw is (cut-size d some) in
       let far : determinant (minus d (reduce d)) v ≡ neg_ℤ way = rw (across-cut d v, across-delta d v, across-reduce d some v) (ring 4 (λ a b x y. neg (a ⊗ x ⊕ b ⊗ y) ⊖ neg (x ⊕ y) ≈ neg (a ⊗ x ⊕ b ⊗ y ⊖ (x ⊕ y))) refl (pos a) (pos b) x y) in
@@ -99,30 +99,30 @@ module _ (l : Line) (along : Parameters) (e : Edge) where
 
 -- the way to a point from an edge's start, and from its end, by that from the leg's start and from its end
 module _ (c z p : Point) (l : Line) where
-  from_start : dotProduct c (minus z p) ≡ dotProduct c (minus z l.start) -ℤ dotProduct c (minus p l.start)
-  unfolding dotProduct minus
+  from_start : dot_product c (minus z p) ≡ dot_product c (minus z l.start) -ℤ dot_product c (minus p l.start)
+  unfolding dot_product minus
   from_start = ring 8 (λ x y z w p q a b. x ⊗ (z ⊖ p) ⊕ y ⊗ (w ⊖ q) ≈ (x ⊗ (z ⊖ a) ⊕ y ⊗ (w ⊖ b)) ⊖ (x ⊗ (p ⊖ a) ⊕ y ⊗ (q ⊖ b))) refl c.x c.y z.x z.y p.x p.y l.start.x l.start.y
 
-  from-whole : dotProduct c (minus z (plus p (delta l))) ≡ dotProduct c (minus z l.end) -ℤ dotProduct c (minus p l.start)
-  unfolding dotProduct minus plus delta
+  from-whole : dot_product c (minus z (plus p (delta l))) ≡ dot_product c (minus z l.end) -ℤ dot_product c (minus p l.start)
+  unfolding dot_product minus plus delta
   from-whole =
       ring 10 (λ x y z w p q a b m n. x ⊗ (z ⊖ (p ⊕ (m ⊖ a))) ⊕ y ⊗ (w ⊖ (q ⊕ (n ⊖ b))) ≈ (x ⊗ (z ⊖ m) ⊕ y ⊗ (w ⊖ n)) ⊖ (x ⊗ (p ⊖ a) ⊕ y ⊗ (q ⊖ b))) refl
       c.x c.y z.x z.y p.x p.y l.start.x l.start.y l.end.x l.end.y
 
-  from_cut : (s : Point) → dotProduct c (minus z (minus (plus p (delta l)) s)) ≡ dotProduct c (minus z l.end) -ℤ dotProduct c (minus p l.start) +ℤ dotProduct c s
-  unfolding dotProduct minus plus delta
+  from_cut : (s : Point) → dot_product c (minus z (minus (plus p (delta l)) s)) ≡ dot_product c (minus z l.end) -ℤ dot_product c (minus p l.start) +ℤ dot_product c s
+  unfolding dot_product minus plus delta
   from_cut s =
       ring 12 (λ x y z w p q a b m n s t. x ⊗ (z ⊖ (p ⊕ (m ⊖ a) ⊖ s)) ⊕ y ⊗ (w ⊖ (q ⊕ (n ⊖ b) ⊖ t)) ≈ (x ⊗ (z ⊖ m) ⊕ y ⊗ (w ⊖ n)) ⊖ (x ⊗ (p ⊖ a) ⊕ y ⊗ (q ⊖ b)) ⊕ (x ⊗ s ⊕ y ⊗ t)) refl
       c.x c.y z.x z.y p.x p.y l.start.x l.start.y l.end.x l.end.y s.x s.y
 
 -- and to where an edge ends
 module _ (c p : Point) (l : Line) where
-  pub to_whole : dotProduct c (minus (plus p (delta l)) l.end) ≡ dotProduct c (minus p l.start)
-  unfolding dotProduct minus plus delta
+  pub to_whole : dot_product c (minus (plus p (delta l)) l.end) ≡ dot_product c (minus p l.start)
+  unfolding dot_product minus plus delta
   to_whole = ring 8 (λ x y p q a b m n. x ⊗ (p ⊕ (m ⊖ a) ⊖ m) ⊕ y ⊗ (q ⊕ (n ⊖ b) ⊖ n) ≈ x ⊗ (p ⊖ a) ⊕ y ⊗ (q ⊖ b)) refl c.x c.y p.x p.y l.start.x l.start.y l.end.x l.end.y
 
-  pub to-cut : (s : Point) → dotProduct c (minus (minus (plus p (delta l)) s) l.end) ≡ dotProduct c (minus p l.start) -ℤ dotProduct c s
-  unfolding dotProduct minus plus delta
+  pub to-cut : (s : Point) → dot_product c (minus (minus (plus p (delta l)) s) l.end) ≡ dot_product c (minus p l.start) -ℤ dot_product c s
+  unfolding dot_product minus plus delta
   to-cut s =
       ring 10 (λ x y p q a b m n s t. x ⊗ (p ⊕ (m ⊖ a) ⊖ s ⊖ m) ⊕ y ⊗ (q ⊕ (n ⊖ b) ⊖ t ⊖ n) ≈ (x ⊗ (p ⊖ a) ⊕ y ⊗ (q ⊖ b)) ⊖ (x ⊗ s ⊕ y ⊗ t)) refl
       c.x c.y p.x p.y l.start.x l.start.y l.end.x l.end.y s.x s.y
@@ -143,12 +143,12 @@ extra-outward Left h = h
 extra-outward Right h = extra-turned h
 
 -- the steps that an Extra edge is shorter, along the two axes
-pub opposite-steps : (d : Point) → 1 ≤ shorter d → dotProduct (minor d) (reduce d) ≡ neg_ℤ (dotProduct (major d) (reduce d))
+pub opposite-steps : (d : Point) → 1 ≤ shorter d → dot_product (minor d) (reduce d) ≡ neg_ℤ (dot_product (major d) (reduce d))
 unfolding determinant
 opposite-steps d some =
     let s = reduce d in
-    let x = dotProduct (major d) s in
-    let y = dotProduct (minor d) s in
+    let x = dot_product (major d) s in
+    let y = dot_product (minor d) s in
     let none : neg_ℤ (x +ℤ y) ≡ pos 0 = sym (across-reduce d some s) ∙ ring 2 (λ u v. u ⊗ v ⊖ v ⊗ u ≈ con (pos 0)) refl s.x s.y in
     ring 2 (λ x y. since (con (negsuc 0)) (neg (x ⊕ y)) (con (pos 0)) (y ≈ neg x)) refl x y none
 
@@ -161,31 +161,31 @@ module _ (l : Line) (w : ℕ) (aim : delta l ≡ aimed l) (side : Side) {e : Edg
 
   -- the way along an axis, seen from the leg's start or its end
   abbrev way : Point → Point → ℤ
-  way c o = outward side (dotProduct c (minus z o))
+  way c o = outward side (dot_product c (minus z o))
 
   pub sighted-start : Touches edge z → Sighted (longer d) (shorter d) (way (major d) l.start) (way (minor d) l.start) (pos 0) m
-  unfolding closed plan_of planAlong
+  unfolding closed plan_of plan_along
   sighted-start h = by m.extra refl
     where
       v : Point
       v = minus z e.point
 
-      x-is : outward side (dotProduct (major d) v) ≡ way (major d) l.start -ℤ pos m.n
-      x-is = ap (outward side) (from_start (major d) z e.point l) ∙ outward-less side (dotProduct (major d) (minus z l.start)) (dotProduct (major d) (minus e.point l.start)) marked.strode.major
+      x-is : outward side (dot_product (major d) v) ≡ way (major d) l.start -ℤ pos m.n
+      x-is = ap (outward side) (from_start (major d) z e.point l) ∙ outward-less side (dot_product (major d) (minus z l.start)) (dot_product (major d) (minus e.point l.start)) marked.strode.major
 
-      y-is : outward side (dotProduct (minor d) v) ≡ way (minor d) l.start -ℤ pos m.e
-      y-is = ap (outward side) (from_start (minor d) z e.point l) ∙ outward-less side (dotProduct (minor d) (minus z l.start)) (dotProduct (minor d) (minus e.point l.start)) marked.strode.minor
+      y-is : outward side (dot_product (minor d) v) ≡ way (minor d) l.start -ℤ pos m.e
+      y-is = ap (outward side) (from_start (minor d) z e.point l) ∙ outward-less side (dot_product (minor d) (minus z l.start)) (dot_product (minor d) (minus e.point l.start)) marked.strode.minor
 
       by : (t : Bool) → m.extra ≡ t → Sighted (longer d) (shorter d) (way (major d) l.start) (way (minor d) l.start) (pos 0) m
-      by false t = normal t (rw (x-is, y-is) at (normal-outward side (normal-by d h v ((closed-normal l (parametersAlong d) e (marked.extra ∙ t)).0 ∙ aim) refl)))
-      by true t = extra t (simp +ℤ_idr (rw (x-is, y-is) at (extra-outward side (extra-by d h v (short t) ((closed-extra l (parametersAlong d) e (marked.extra ∙ t)).0 ∙ ap (λ x. minus x (reduce d)) aim) refl))))
+      by false t = normal t (rw (x-is, y-is) at (normal-outward side (normal-by d h v ((closed-normal l (parameters_along d) e (marked.extra ∙ t)).0 ∙ aim) refl)))
+      by true t = extra t (simp +ℤ_idr (rw (x-is, y-is) at (extra-outward side (extra-by d h v (short t) ((closed-extra l (parameters_along d) e (marked.extra ∙ t)).0 ∙ ap (λ x. minus x (reduce d)) aim) refl))))
 
   -- what an Extra edge is nearer along the major axis, seen from its end
   abbrev nearer : ℤ
-  nearer = outward side (dotProduct (major d) (reduce d))
+  nearer = outward side (dot_product (major d) (reduce d))
 
   pub sighted-end : Touches edge z → Sighted (longer d) (shorter d) (way (major d) l.end) (way (minor d) l.end) nearer m
-  unfolding plan_of planAlong
+  unfolding plan_of plan_along
   sighted-end h = by m.extra refl
     where
       v : Point
@@ -195,22 +195,22 @@ module _ (l : Line) (w : ℕ) (aim : delta l ≡ aimed l) (side : Side) {e : Edg
       same = ap nat_abs (from_end edge z)
 
       -- the way along an axis less that to the edge
-      less : (c : Point) {n : ℕ} → outward side (dotProduct c (minus e.point l.start)) ≡ pos n → outward side (dotProduct c (minus z l.end) -ℤ dotProduct c (minus e.point l.start)) ≡ way c l.end -ℤ pos n
-      less c at = outward-less side (dotProduct c (minus z l.end)) (dotProduct c (minus e.point l.start)) at
+      less : (c : Point) {n : ℕ} → outward side (dot_product c (minus e.point l.start)) ≡ pos n → outward side (dot_product c (minus z l.end) -ℤ dot_product c (minus e.point l.start)) ≡ way c l.end -ℤ pos n
+      less c at = outward-less side (dot_product c (minus z l.end)) (dot_product c (minus e.point l.start)) at
 
-      whole : (c : Point) {n : ℕ} → edge.end ≡ plus e.point (delta l) → outward side (dotProduct c (minus e.point l.start)) ≡ pos n → outward side (dotProduct c v) ≡ way c l.end -ℤ pos n
-      whole c is at = ap (λ p. outward side (dotProduct c (minus z p))) is ∙ ap (outward side) (from-whole c z e.point l) ∙ less c at
+      whole : (c : Point) {n : ℕ} → edge.end ≡ plus e.point (delta l) → outward side (dot_product c (minus e.point l.start)) ≡ pos n → outward side (dot_product c v) ≡ way c l.end -ℤ pos n
+      whole c is at = ap (λ p. outward side (dot_product c (minus z p))) is ∙ ap (outward side) (from-whole c z e.point l) ∙ less c at
 
-      cut : (c : Point) {n : ℕ} → edge.end ≡ minus (plus e.point (delta l)) (reduce d) → outward side (dotProduct c (minus e.point l.start)) ≡ pos n → outward side (dotProduct c v) ≡ way c l.end -ℤ pos n +ℤ outward side (dotProduct c (reduce d))
+      cut : (c : Point) {n : ℕ} → edge.end ≡ minus (plus e.point (delta l)) (reduce d) → outward side (dot_product c (minus e.point l.start)) ≡ pos n → outward side (dot_product c v) ≡ way c l.end -ℤ pos n +ℤ outward side (dot_product c (reduce d))
       cut c is at =
-          ap (λ p. outward side (dotProduct c (minus z p))) is ∙ ap (outward side) (from_cut c z e.point l (reduce d))
-          ∙ outward-plus side (dotProduct c (minus z l.end) -ℤ dotProduct c (minus e.point l.start)) (dotProduct c (reduce d)) ∙ ap (λ q. q +ℤ outward side (dotProduct c (reduce d))) (less c at)
+          ap (λ p. outward side (dot_product c (minus z p))) is ∙ ap (outward side) (from_cut c z e.point l (reduce d))
+          ∙ outward-plus side (dot_product c (minus z l.end) -ℤ dot_product c (minus e.point l.start)) (dot_product c (reduce d)) ∙ ap (λ q. q +ℤ outward side (dot_product c (reduce d))) (less c at)
 
       by : (t : Bool) → m.extra ≡ t → Sighted (longer d) (shorter d) (way (major d) l.end) (way (minor d) l.end) nearer m
       by false t =
-          let c = closed-normal l (parametersAlong d) e (marked.extra ∙ t) in
+          let c = closed-normal l (parameters_along d) e (marked.extra ∙ t) in
           normal t (rw (whole (major d) c.1 marked.strode.major, whole (minor d) c.1 marked.strode.minor) at (normal-outward side (normal-by d h v (c.0 ∙ aim) same)))
       by true t =
-          let c = closed-extra l (parametersAlong d) e (marked.extra ∙ t) in
-          let back : outward side (dotProduct (minor d) (reduce d)) ≡ neg_ℤ nearer = ap (outward side) (opposite-steps d (short t)) ∙ outward-back side (dotProduct (major d) (reduce d)) in
+          let c = closed-extra l (parameters_along d) e (marked.extra ∙ t) in
+          let back : outward side (dot_product (minor d) (reduce d)) ≡ neg_ℤ nearer = ap (outward side) (opposite-steps d (short t)) ∙ outward-back side (dot_product (major d) (reduce d)) in
           extra t (rw (cut (major d) c.1 marked.strode.major, cut (minor d) c.1 marked.strode.minor, back) at (extra-outward side (extra-by d h v (short t) (c.0 ∙ ap (λ x. minus x (reduce d)) aim) same)))

@@ -12,11 +12,11 @@ use Rattle.shapes.specs.declared.Line.{Line}
 use Rattle.shapes.specs.declared.Side.{Side}
 use Rattle.shapes.specs.declared.Side.TheVariants.{Left, Right}
 use Rattle.shapes.specs.declared.Offset.TheVariants.{None}
-use Rattle.shapes.specs.Limits.{lineLimit, widthLimit}
-use Rattle.shapes.specs.Shape.{line_of, LineNear, minus, dotProduct, squaredLength}
+use Rattle.shapes.specs.Limits.{line_limit, width_limit}
+use Rattle.shapes.specs.Shape.{line_of, LineNear, minus, dot_product, squared_length}
 use Rattle.parallels.specs.Parallels.{aimed}
-use Rattle.line_join.specs.Miter.{miterLimit, reaches}
-use Rattle.line_join.specs.Join.{cornersOf, outer, start_of, end_of, join_of}
+use Rattle.line_join.specs.Miter.{miter_limit, reaches}
+use Rattle.line_join.specs.Join.{corners_of, outer, start_of, end_of, join_of}
 use Rattle.line_join.proofs.Laws.{reaches-exactly}
 use Rattle.skeletons.proofs.Bends.{two-apart, ends-differ, one_end, four-apart}
 use Rattle.skeletons.proofs.Cells.{Touches, drawn-end}
@@ -24,7 +24,7 @@ use Rattle.skeletons.proofs.Corners.{Apart, Corner, ended, drawn, before, after,
 use Rattle.skeletons.proofs.Frames.{major, minor}
 use Rattle.skeletons.proofs.Marches.{still}
 use Rattle.skeletons.proofs.Sights.{Reached}
-use Rattle.skeletons.proofs.Strokes.{Fits, counts, markAt, edge, step, off, along, aside, Solid, starts-at, ends_at, bare-edge}
+use Rattle.skeletons.proofs.Strokes.{Fits, counts, mark_at, edge, step, off, along, aside, Solid, starts-at, ends_at, bare-edge}
 use Rattle.skeletons.proofs.Two.{two-beside, two-never}
 
 -- ---- from width 3 on
@@ -40,7 +40,7 @@ module _ {p q r : Point} {w : ℕ} (first : Fits (line_of p q) w) (second : Fits
   Near z = Reached w (minus z q).x (minus z q).y
 
   reached : (z : Point) → reaches q z (pos w) ≡ true → Near z
-  unfolding squaredLength dotProduct miterLimit
+  unfolding squared_length dot_product miter_limit
   reached z t = let h = rw (square-is (minus z q).x, square-is (minus z q).y) at ((reaches-exactly q z (pos w)).0 t) in omega (linear, h)
 
   -- a corner on each side: they are not one
@@ -65,7 +65,7 @@ module _ {p q r : Point} {w : ℕ} (first : Fits (line_of p q) w) (second : Fits
       on Left = after first second wide Left d
       on Right = after first second wide Right e
 
-  outer-is : (s : Side) {l t : Point} → l ≡ t → outer s (cornersOf l t) ≡ l
+  outer-is : (s : Side) {l t : Point} → l ≡ t → outer s (corners_of l t) ≡ l
   outer-is Left e = refl
   outer-is Right e = sym e
 
@@ -92,7 +92,7 @@ module _ {l : Line} (fits : Fits l 2) where
   left_end : (edge l 2 Left).end ≡ l.end → ⊥
   left_end e =
       let at = ends_at fits (omega arith) Left in
-      let t = off (markAt l 2 Left).extra (step l Left) in
+      let t = off (mark_at l 2 Left).extra (step l Left) in
       let x : pos 0 ≡ pos 1 -ℤ t = sym (still (major (aimed l)) l.end) ∙ ap (λ z. along l Left z l.end) (sym e) ∙ at.major-at ∙ ap (λ n. pos n -ℤ t) (two-beside fits).one in
       let y : pos 0 ≡ pos 0 +ℤ t = sym (still (minor (aimed l)) l.end) ∙ ap (λ z. aside l Left z l.end) (sym e) ∙ at.minor-at ∙ ap (λ n. pos n +ℤ t) (two-beside fits).none in
       omega (linear, x, y, diff (pos 1) t, sum (pos 0) t)
@@ -128,11 +128,11 @@ module _ {p q r : Point} (first : Fits (line_of p q) 2) (second : Fits (line_of 
 abbrev Steps : Line → ℕ → Type 0
 Steps l w = Fits l w → 1 ≤ (counts l w).left.n + (counts l w).right.n
 
-module _ {w : ℕ} (two : 2 ≤ w) (most : w ≤ widthLimit) where
-  fit : {l : Line} → LineNear lineLimit l → Fits l w
+module _ {w : ℕ} (two : 2 ≤ w) (most : w ≤ width_limit) where
+  fit : {l : Line} → LineNear line_limit l → Fits l w
   fit near = record { near = near; small = omega (arith, most) }
 
-  fit-two : {l : Line} → LineNear lineLimit l → Fits l 2
+  fit-two : {l : Line} → LineNear line_limit l → Fits l 2
   fit-two near = record { near = near; small = omega arith }
 
   from-two : (P : ℕ → Type 0) → P 2 → (3 ≤ w → P w) → P w
@@ -144,7 +144,7 @@ module _ {w : ℕ} (two : 2 ≤ w) (most : w ≤ widthLimit) where
       at-two : Steps l 2
       at-two fits = omega (arith, (two-beside fits).one)
 
-  module _ {p q : Point} (near : LineNear lineLimit (line_of p q)) where
+  module _ {p q : Point} (near : LineNear line_limit (line_of p q)) where
     pub start-apart : Apart (start_of p q (pos w) None)
     unfolding start_of
     start-apart same =
@@ -158,5 +158,5 @@ module _ {w : ℕ} (two : 2 ≤ w) (most : w ≤ widthLimit) where
     unfolding end_of
     end-apart = from-two (λ n. Apart (end_of p q (pos n) None)) (two_ends (fit-two near)) (λ three. ends-differ (fit near) three)
 
-    pub bend-apart : {r : Point} → LineNear lineLimit (line_of q r) → Apart (join_of p q r (pos w) None)
+    pub bend-apart : {r : Point} → LineNear line_limit (line_of q r) → Apart (join_of p q r (pos w) None)
     bend-apart {r} next = from-two (λ n. Apart (join_of p q r (pos n) None)) (apart-at-two (fit-two near) (fit-two next)) (λ three. apart-when-wide (fit near) (fit next) three most)

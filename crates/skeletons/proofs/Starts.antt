@@ -17,7 +17,7 @@ use Rattle.skeletons.specs.Treads.{Arrived, most_of, marched}
 use Rattle.skeletons.proofs.Apart.{PaidFor, gap_of, gap, paid_for, gap-wide, two_steps}
 use Rattle.skeletons.proofs.Distances.{Wide, Close, never-long, never-wide, wide_of, late_of, extra-wide}
 use Rattle.skeletons.proofs.Sights.{Reached, Normal, Extra, Sighted, normal, extra}
-use Rattle.skeletons.proofs.Small.{Test, passes, byGap, byAxis, keeps, isExcepted, few-keep, many-keep}
+use Rattle.skeletons.proofs.Small.{Test, passes, by_gap, by_axis, keeps, is_excepted, few-keep, many-keep}
 use Rattle.skeletons.proofs.Together.{both-normal, both-extra, one-extra, along-axis}
 
 -- a Normal edge n and e steps out on the one side, and an Extra one p and f on the other
@@ -38,10 +38,10 @@ module _ (b c w n e p f : ℕ) (x y : ℤ) where
     close-start : Close b c w 0 g f
     close-start = omega (arith, closes (pos 0) (square_le (nat_abs y) (2 * w) (omega arith)) h k)
 
-    gap-no : byGap b c w 0 n e p f ≡ true → ⊥
+    gap-no : by_gap b c w 0 n e p f ≡ true → ⊥
     gap-no t = omega (arith, close-start, ltb-true)
 
-    axis-no : byAxis b c w n e p f ≡ true → ⊥
+    axis-no : by_axis b c w n e p f ≡ true → ⊥
     axis-no t =
         let far = (c + 1) * (n + p) + e - (c + 2) / 2 in
         let beyond : 2 * w * (2 * w) < p * p + far * far = ltb-true (2 * w * (2 * w)) (p * p + far * far) (and_right (eqb b 0) (ltb (2 * w * (2 * w)) (p * p + far * far)) t) in
@@ -57,9 +57,9 @@ module _ (b c w n e p f : ℕ) (x y : ℤ) where
         omega (arith, mul-le-mul {n₁ = p} {m₁ = p} x-far x-far, mul-le-mul {n₁ = far} {m₁ = far} y-far y-far)
 
     keeps-no : keeps b c w n e p f ≡ true → ⊥
-    keeps-no t = by (byGap b c w 0 n e p f) refl
+    keeps-no t = by (by_gap b c w 0 n e p f) refl
       where
-        by : (u : Bool) → byGap b c w 0 n e p f ≡ u → ⊥
+        by : (u : Bool) → by_gap b c w 0 n e p f ≡ u → ⊥
         by true e = gap-no e
         by false e = axis-no (rw e at t)
 
@@ -134,7 +134,7 @@ module _ (b c w : ℕ) (flip : Bool) where
           extra-wide b c (last.left.n + last.right.n) (last.left.e + last.right.e) some steps-more (omega (arith, gap_more))
           (omega (arith, both-extra (b + c + 1) (b + 1) last.left.n last.left.e last.right.n last.right.e x y s h k))
 
-    module _ (most : w ≤ 64) (x y : ℤ) (reach : Reached w x y) (some : 1 ≤ b + c) (unless : flip ≡ true → isExcepted b c w ≡ false) where
+    module _ (most : w ≤ 64) (x y : ℤ) (reach : Reached w x y) (some : 1 ≤ b + c) (unless : flip ≡ true → is_excepted b c w ≡ false) where
       start-parted : Parted x y (pos 0)
       start-parted n e p f u v t one u-is v-is t-is h k =
           let none : t ≡ pos 0 = omega (linear, t-is, abs-parts t) in

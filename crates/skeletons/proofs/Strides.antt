@@ -12,17 +12,17 @@ use Rattle.whole.proofs.Ring.{◌⊕◌, ◌⊖◌, ◌⊗◌, ◌≈◌, ring}
 use Rattle.shapes.specs.declared.Point.{Point}
 use Rattle.shapes.specs.declared.Side.{Side}
 use Rattle.shapes.specs.declared.Side.TheVariants.{Left, Right}
-use Rattle.shapes.specs.Shape.{plus, minus, dotProduct}
+use Rattle.shapes.specs.Shape.{plus, minus, dot_product}
 use Rattle.bresenham.specs.declared.Parameters.{Parameters}
 use Rattle.bresenham.specs.declared.Bresenham.{Bresenham}
 use Rattle.bresenham.specs.declared.Met.{Met}
-use Rattle.bresenham.specs.Walk.{place_of, nextAll, previousAll, increased, decreased}
+use Rattle.bresenham.specs.Walk.{place_of, next_all, previous_all, increased, decreased}
 use Rattle.parallels.specs.declared.Plan.{Plan}
 use Rattle.parallels.specs.declared.Flank.{Flank}
 use Rattle.parallels.specs.declared.Taken.{Taken}
-use Rattle.parallels.specs.Parallels.{across, due, falls, bent, normalTurn, extraTurn, turn_of, nextParallel, Sound, Steady}
+use Rattle.parallels.specs.Parallels.{across, due, falls, bent, normal_turn, extra_turn, turn_of, next_parallel, Sound, Steady}
 use Rattle.parallels.proofs.Steps.{turned}
-use Rattle.skeletons.specs.Treads.{Tread, Trod, treadOf, due_at, kept_at, trodBy, trod}
+use Rattle.skeletons.specs.Treads.{Tread, Trod, tread_of, due_at, kept_at, trod_by, trod}
 use Rattle.skeletons.proofs.Outward.{outward}
 
 -- ---- a plan by its numbers: a and b, and steps across of one pixel along the axes
@@ -33,10 +33,10 @@ pub record Gauged (p : Parameters) (a b : ℕ) : Type 0 where
   pub loses : p.loss ≡ pos (2 * a)
 
 pub record Unit (p : Parameters) : Type 0 where
-  pub major-unit : dotProduct p.major p.major ≡ pos 1
-  pub crossed : dotProduct p.major p.minor ≡ pos 0
-  pub crossed-back : dotProduct p.minor p.major ≡ pos 0
-  pub minor-unit : dotProduct p.minor p.minor ≡ pos 1
+  pub major_unit : dot_product p.major p.major ≡ pos 1
+  pub crossed : dot_product p.major p.minor ≡ pos 0
+  pub crossed-back : dot_product p.minor p.major ≡ pos 0
+  pub minor_unit : dot_product p.minor p.minor ≡ pos 1
 
 pub record Measured (plan : Plan) (a b : ℕ) : Type 0 where
   pub across-is : Gauged plan.perpendicular a b
@@ -50,8 +50,8 @@ upward false z = z
 
 -- a point is n steps along the major axis from o, and e along the minor one
 pub record Strode (plan : Plan) (o : Point) (side : Side) (p : Point) (n e : ℕ) : Type 0 where
-  pub major : outward side (dotProduct plan.perpendicular.major (minus p o)) ≡ pos n
-  pub minor : outward side (dotProduct plan.perpendicular.minor (minus p o)) ≡ pos e
+  pub major : outward side (dot_product plan.perpendicular.major (minus p o)) ≡ pos n
+  pub minor : outward side (dot_product plan.perpendicular.minor (minus p o)) ≡ pos e
 
 -- a side stands where its counts say, with both errors that they make: its own, and that with which its parallels begin
 pub record Stands (plan : Plan) (a b : ℕ) (o : Point) (side : Side) (f : Flank) (t : Tread) : Type 0 where
@@ -61,13 +61,13 @@ pub record Stands (plan : Plan) (a b : ℕ) (o : Point) (side : Side) (f : Flank
 
 -- ---- one step more
 
-dot-plus : (u p m o : Point) → dotProduct u (minus (plus p m) o) ≡ dotProduct u (minus p o) +ℤ dotProduct u m
-unfolding dotProduct minus plus
+dot-plus : (u p m o : Point) → dot_product u (minus (plus p m) o) ≡ dot_product u (minus p o) +ℤ dot_product u m
+unfolding dot_product minus plus
 dot-plus u p m o =
     ring 8 (λ x y p q m n v w. x ⊗ (p ⊕ m ⊖ v) ⊕ y ⊗ (q ⊕ n ⊖ w) ≈ (x ⊗ (p ⊖ v) ⊕ y ⊗ (q ⊖ w)) ⊕ (x ⊗ m ⊕ y ⊗ n)) refl u.x u.y p.x p.y m.x m.y o.x o.y
 
-dot-minus : (u p m o : Point) → dotProduct u (minus (minus p m) o) ≡ dotProduct u (minus p o) -ℤ dotProduct u m
-unfolding dotProduct minus
+dot-minus : (u p m o : Point) → dot_product u (minus (minus p m) o) ≡ dot_product u (minus p o) -ℤ dot_product u m
+unfolding dot_product minus
 dot-minus u p m o =
     ring 8 (λ x y p q m n v w. x ⊗ (p ⊖ m ⊖ v) ⊕ y ⊗ (q ⊖ n ⊖ w) ≈ (x ⊗ (p ⊖ v) ⊕ y ⊗ (q ⊖ w)) ⊖ (x ⊗ m ⊕ y ⊗ n)) refl u.x u.y p.x p.y m.x m.y o.x o.y
 
@@ -85,11 +85,11 @@ abbrev went : Side → Point → Point → Point
 went Left p u = plus p u
 went Right p u = minus p u
 
-moved : (side : Side) (c u p o : Point) (n d : ℕ) → outward side (dotProduct c (minus p o)) ≡ pos n → dotProduct c u ≡ pos d → outward side (dotProduct c (minus (went side p u) o)) ≡ pos (n + d)
-moved Left c u p o n d at by = dot-plus c p u o ∙ omega (linear, sum (dotProduct c (minus p o)) (dotProduct c u))
+moved : (side : Side) (c u p o : Point) (n d : ℕ) → outward side (dot_product c (minus p o)) ≡ pos n → dot_product c u ≡ pos d → outward side (dot_product c (minus (went side p u) o)) ≡ pos (n + d)
+moved Left c u p o n d at by = dot-plus c p u o ∙ omega (linear, sum (dot_product c (minus p o)) (dot_product c u))
 moved Right c u p o n d at by =
-    let v = dotProduct c (minus p o) in
-    rw (dot-minus c p u o) (omega (linear, diff v (dotProduct c u), opp v, opp (v -ℤ dotProduct c u)))
+    let v = dot_product c (minus p o) in
+    rw (dot-minus c p u o) (omega (linear, diff v (dot_product c u), opp v, opp (v -ℤ dot_product c u)))
 
 module _ {plan : Plan} {a b : ℕ} (m : Measured plan a b) (o : Point) (side : Side) where
   abbrev q : Parameters
@@ -98,12 +98,12 @@ module _ {plan : Plan} {a b : ℕ} (m : Measured plan a b) (o : Point) (side : S
   on-major : {p : Point} {n e : ℕ} → Strode plan o side p n e → Strode plan o side (went side p q.major) (n + 1) e
   on-major {p} {n} {e} s =
       let none : e + 0 ≡ e = omega arith in
-      record { major = moved side q.major q.major p o n 1 s.major m.steps.major-unit; minor = rw none at (moved side q.minor q.major p o e 0 s.minor m.steps.crossed-back) }
+      record { major = moved side q.major q.major p o n 1 s.major m.steps.major_unit; minor = rw none at (moved side q.minor q.major p o e 0 s.minor m.steps.crossed-back) }
 
   on-minor : {p : Point} {n e : ℕ} → Strode plan o side p n e → Strode plan o side (went side p q.minor) n (e + 1)
   on-minor {p} {n} {e} s =
       let none : n + 0 ≡ n = omega arith in
-      record { major = rw none at (moved side q.major q.minor p o n 0 s.major m.steps.crossed); minor = moved side q.minor q.minor p o e 1 s.minor m.steps.minor-unit }
+      record { major = rw none at (moved side q.major q.minor p o n 0 s.major m.steps.crossed); minor = moved side q.minor q.minor p o e 1 s.minor m.steps.minor_unit }
 
 -- ---- when a step is due, and when an Extra point is handed out
 
@@ -153,27 +153,27 @@ module _ {p : Parameters} {a b : ℕ} (m : Gauged p a b) where
 -- ---- one step across a side
 
 -- a Normal one, and an Extra one
-abbrev normalMet : Parameters → Side → Bresenham → Met
-normalMet p side b = record { point = b.point; extra = false; state = place_of (went side b.point p.major) (farther side b.error p.gain) }
+abbrev normal_met : Parameters → Side → Bresenham → Met
+normal_met p side b = record { point = b.point; extra = false; state = place_of (went side b.point p.major) (farther side b.error p.gain) }
 
-abbrev extraMet : Parameters → Side → Bresenham → Met
-extraMet p side b = record { point = b.point; extra = true; state = place_of (went side b.point p.minor) (nearer side b.error p.loss) }
+abbrev extra_met : Parameters → Side → Bresenham → Met
+extra_met p side b = record { point = b.point; extra = true; state = place_of (went side b.point p.minor) (nearer side b.error p.loss) }
 
-across-normal : (p : Parameters) (side : Side) (b : Bresenham) → due p side b.error ≡ false → across p side b ≡ normalMet p side b
-unfolding nextAll previousAll
+across-normal : (p : Parameters) (side : Side) (b : Bresenham) → due p side b.error ≡ false → across p side b ≡ normal_met p side b
+unfolding next_all previous_all
 across-normal p Left b e = rw e
 across-normal p Right b e = rw e
 
-across-extra : (p : Parameters) (side : Side) (b : Bresenham) → due p side b.error ≡ true → across p side b ≡ extraMet p side b
-unfolding nextAll previousAll
+across-extra : (p : Parameters) (side : Side) (b : Bresenham) → due p side b.error ≡ true → across p side b ≡ extra_met p side b
+unfolding next_all previous_all
 across-extra p Left b e = rw e
 across-extra p Right b e = rw e
 
-turn-normal : (plan : Plan) (side : Side) (f : Flank) → due plan.perpendicular side f.at.error ≡ false → turn_of plan side f ≡ normalTurn (normalMet plan.perpendicular side f.at) f.error
+turn-normal : (plan : Plan) (side : Side) (f : Flank) → due plan.perpendicular side f.at.error ≡ false → turn_of plan side f ≡ normal_turn (normal_met plan.perpendicular side f.at) f.error
 unfolding turn_of
 turn-normal plan side f e = rw (across-normal plan.perpendicular side f.at e)
 
-turn-extra : (plan : Plan) (side : Side) (f : Flank) → due plan.perpendicular side f.at.error ≡ true → turn_of plan side f ≡ extraTurn (extraMet plan.perpendicular side f.at) (bent plan.parallel (falls plan.flip side) f.error)
+turn-extra : (plan : Plan) (side : Side) (f : Flank) → due plan.perpendicular side f.at.error ≡ true → turn_of plan side f ≡ extra_turn (extra_met plan.perpendicular side f.at) (bent plan.parallel (falls plan.flip side) f.error)
 unfolding turn_of
 turn-extra plan side f e = rw (across-extra plan.perpendicular side f.at e)
 
@@ -186,15 +186,15 @@ pub record Trodden (plan : Plan) (a b : ℕ) (o : Point) (side : Side) (t : Take
 
 module _ {plan : Plan} {a b : ℕ} (m : Measured plan a b) {o : Point} (side : Side) where
   -- a Normal point
-  normal-trodden : {f : Flank} {t : Tread} → Stands plan a b o side f t → due plan.perpendicular side f.at.error ≡ false → Trodden plan a b o side (turn_of plan side f).taken (trodBy a b false false t)
-  unfolding trodBy
+  normal-trodden : {f : Flank} {t : Tread} → Stands plan a b o side f t → due plan.perpendicular side f.at.error ≡ false → Trodden plan a b o side (turn_of plan side f).taken (trod_by a b false false t)
+  unfolding trod_by
   normal-trodden {f} {t} s e =
       rw (turn-normal plan side f e)
       (record { extra = refl; strode = s.strode; stands = record { strode = on-major m o side s.strode; error = error-major m.across-is side f.at.error t.n t.e s.error; kept = s.kept } })
 
   -- an Extra one, which is handed out
-  extra-trodden : {f : Flank} {t : Tread} → Stands plan a b o side f t → due plan.perpendicular side f.at.error ≡ true → kept_at a b (falls plan.flip side) t.e t.k ≡ true → Trodden plan a b o side (turn_of plan side f).taken (trodBy a b true true t)
-  unfolding trodBy
+  extra-trodden : {f : Flank} {t : Tread} → Stands plan a b o side f t → due plan.perpendicular side f.at.error ≡ true → kept_at a b (falls plan.flip side) t.e t.k ≡ true → Trodden plan a b o side (turn_of plan side f).taken (trod_by a b true true t)
+  unfolding trod_by
   extra-trodden {f} {t} s e h =
       rw (turn-extra plan side f e)
       (record {
@@ -205,21 +205,21 @@ module _ {plan : Plan} {a b : ℕ} (m : Measured plan a b) {o : Point} (side : S
 
   -- an Extra one, which is passed over: the next is Normal
   passed-trodden : {w : ℕ} {f : Flank} {t : Tread} → Sound w plan → Steady plan f → Stands plan a b o side f t → due plan.perpendicular side f.at.error ≡ true → kept_at a b (falls plan.flip side) t.e t.k ≡ false
-      → Trodden plan a b o side (turn_of plan side (turn_of plan side f).taken.flank).taken (trodBy a b true false t)
-  unfolding trodBy
+      → Trodden plan a b o side (turn_of plan side (turn_of plan side f).taken.flank).taken (trod_by a b true false t)
+  unfolding trod_by
   passed-trodden {f} {t} sound steady s e h =
       let is = turn-extra plan side f e in
       let bends = bent-by m.along-is (falls plan.flip side) false f.error t.e t.k s.kept h in
       let none : t.k + 0 ≡ t.k = omega arith in
-      let stands : Stands plan a b o side (turn_of plan side f).taken.flank (treadOf t.n (t.e + 1) t.k) =
+      let stands : Stands plan a b o side (turn_of plan side f).taken.flank (tread_of t.n (t.e + 1) t.k) =
       rw is (record { strode = on-minor m o side s.strode; error = error-minor m.across-is side f.at.error t.n t.e s.error; kept = rw none at bends.1 }) in
       normal-trodden stands ((turned sound side steady).passed (rw is bends.0)).1
 
-  pub trodden : {w : ℕ} {f : Flank} {t : Tread} → Sound w plan → Steady plan f → Stands plan a b o side f t → Trodden plan a b o side (nextParallel plan side f) (trod a b side (falls plan.flip side) t)
-  unfolding nextParallel trod trodBy
+  pub trodden : {w : ℕ} {f : Flank} {t : Tread} → Sound w plan → Steady plan f → Stands plan a b o side f t → Trodden plan a b o side (next_parallel plan side f) (trod a b side (falls plan.flip side) t)
+  unfolding next_parallel trod trod_by
   trodden {w} {f} {t} sound steady s = by (due_at a b side t.n t.e) (kept_at a b (falls plan.flip side) t.e t.k) refl refl
     where
-      by : (x y : Bool) → due_at a b side t.n t.e ≡ x → kept_at a b (falls plan.flip side) t.e t.k ≡ y → Trodden plan a b o side (nextParallel plan side f) (trodBy a b x y t)
+      by : (x y : Bool) → due_at a b side t.n t.e ≡ x → kept_at a b (falls plan.flip side) t.e t.k ≡ y → Trodden plan a b o side (next_parallel plan side f) (trod_by a b x y t)
       by false y ex ey =
           let e = due-by m.across-is side f.at.error t.n t.e false s.error ex in
           let met : (turn_of plan side f).met ≡ true = rw (turn-normal plan side f e) in

@@ -11,16 +11,16 @@ use Rattle.shapes.specs.declared.Line.{Line}
 use Rattle.shapes.specs.declared.Side.{Side}
 use Rattle.shapes.specs.declared.Side.TheVariants.{Left, Right}
 use Rattle.shapes.specs.declared.Offset.TheVariants.{None}
-use Rattle.shapes.specs.Limits.{lineLimit, thickLimit}
-use Rattle.shapes.specs.Shape.{LineNear, samePoint, minus, dotProduct, delta}
+use Rattle.shapes.specs.Limits.{line_limit, thick_limit}
+use Rattle.shapes.specs.Shape.{LineNear, same_point, minus, dot_product, delta}
 use Rattle.shapes.proofs.Laws.{point-is, same-exactly}
 use Rattle.bresenham.proofs.Laws.{sides}
-use Rattle.parallels.specs.Parallels.{aimed, planAlong, plan_of, parallelsOf}
+use Rattle.parallels.specs.Parallels.{aimed, plan_along, plan_of, parallels_of}
 use Rattle.parallels.proofs.Plans.{sound-plan}
 use Rattle.extents.specs.declared.Edge.{Edge}
 use Rattle.extents.specs.declared.Edges.{Edges}
 use Rattle.extents.specs.declared.Ends.{Ends}
-use Rattle.extents.specs.Edges.{lasts, freshEdge, freshEnds, closed, extentsOf}
+use Rattle.extents.specs.Edges.{lasts, fresh_edge, fresh_ends, closed, extents_of}
 use Rattle.extents.proofs.Laws.{closed-fresh}
 use Rattle.skeletons.specs.Treads.{Mark, Arrived, mark_of, marched}
 use Rattle.skeletons.proofs.Apart.{Fairly, paid_for, some-short}
@@ -31,13 +31,13 @@ use Rattle.skeletons.proofs.Marches.{edge_at, Marked, larger, smaller, edges-mar
 use Rattle.skeletons.proofs.Outward.{outward, outward-minus, outward-back, none_out}
 use Rattle.skeletons.proofs.Sights.{Sighted, sighted-start, sighted-end, closed-normal, closed-extra, to_whole, to-cut, opposite-steps}
 
-abbrev edgeOn : Side → Edges → Line
-edgeOn Left e = e.left
-edgeOn Right e = e.right
+abbrev edge_on : Side → Edges → Line
+edge_on Left e = e.left
+edge_on Right e = e.right
 
-abbrev pub markOn : Side → Arrived → Mark
-markOn Left r = r.left
-markOn Right r = r.right
+abbrev pub mark_on : Side → Arrived → Mark
+mark_on Left r = r.left
+mark_on Right r = r.right
 
 -- what an Extra edge is off, and a Normal one is not
 abbrev pub off : Bool → ℤ → ℤ
@@ -48,8 +48,8 @@ off false s = pos 0
 
 -- what the parallels ask of both
 pub record Fits (l : Line) (w : ℕ) : Type 0 where
-  pub near : LineNear lineLimit l
-  pub small : w ≤ thickLimit
+  pub near : LineNear line_limit l
+  pub small : w ≤ thick_limit
 
 abbrev pub flip : Line → ℕ → Bool
 flip l w = (plan_of l (pos w) None).flip
@@ -57,35 +57,35 @@ flip l w = (plan_of l (pos w) None).flip
 abbrev pub counts : Line → ℕ → Arrived
 counts l w = marched (larger l) (smaller l) (flip l w) w
 
-abbrev pub markAt : Line → ℕ → Side → Mark
-markAt l w side = markOn side (counts l w)
+abbrev pub mark_at : Line → ℕ → Side → Mark
+mark_at l w side = mark_on side (counts l w)
 
 abbrev pub edge : Line → ℕ → Side → Line
-edge l w side = edgeOn side (extentsOf l (pos w) None)
+edge l w side = edge_on side (extents_of l (pos w) None)
 
 abbrev pub step : Line → Side → ℤ
-step l side = outward side (dotProduct (major (aimed l)) (reduce (aimed l)))
+step l side = outward side (dot_product (major (aimed l)) (reduce (aimed l)))
 
 -- how far z is along the two axes across the line, seen from o and counted outward
 abbrev pub along : Line → Side → Point → Point → ℤ
-along l side z o = outward side (dotProduct (major (aimed l)) (minus z o))
+along l side z o = outward side (dot_product (major (aimed l)) (minus z o))
 
 abbrev pub aside : Line → Side → Point → Point → ℤ
-aside l side z o = outward side (dotProduct (minor (aimed l)) (minus z o))
+aside l side z o = outward side (dot_product (minor (aimed l)) (minus z o))
 
 -- an edge starts where its counts say, and ends there, seen from the line's end; an Extra one is off by the step that it is shorter
 pub record StartsAt (l : Line) (w : ℕ) (side : Side) : Type 0 where
-  pub major-at : along l side (edge l w side).start l.start ≡ pos (markAt l w side).n
-  pub minor-at : aside l side (edge l w side).start l.start ≡ pos (markAt l w side).e
+  pub major-at : along l side (edge l w side).start l.start ≡ pos (mark_at l w side).n
+  pub minor-at : aside l side (edge l w side).start l.start ≡ pos (mark_at l w side).e
 
 pub record EndsAt (l : Line) (w : ℕ) (side : Side) : Type 0 where
-  pub major-at : along l side (edge l w side).end l.end ≡ pos (markAt l w side).n -ℤ off (markAt l w side).extra (step l side)
-  pub minor-at : aside l side (edge l w side).end l.end ≡ pos (markAt l w side).e +ℤ off (markAt l w side).extra (step l side)
+  pub major-at : along l side (edge l w side).end l.end ≡ pos (mark_at l w side).n -ℤ off (mark_at l w side).extra (step l side)
+  pub minor-at : aside l side (edge l w side).end l.end ≡ pos (mark_at l w side).e +ℤ off (mark_at l w side).extra (step l side)
 
 -- an edge that has a length
 pub record Solid (l : Line) (w : ℕ) (side : Side) : Type 0 where
   pub aim : delta l ≡ aimed l
-  pub long : (markAt l w side).extra ≡ true → 3 ≤ larger l + smaller l
+  pub long : (mark_at l w side).extra ≡ true → 3 ≤ larger l + smaller l
 
 abbrev Still : Line → Type 0
 Still l = ((delta l).x ≡ pos 0) × ((delta l).y ≡ pos 0)
@@ -95,15 +95,15 @@ less l = (sides (aimed l)).less
 
 -- ---- a leg from a point to itself, and any other
 
-aimed-still : (l : Line) → samePoint l.start l.end ≡ true → smaller l ≡ 0
+aimed-still : (l : Line) → same_point l.start l.end ≡ true → smaller l ≡ 0
 unfolding aimed
 aimed-still l same = rw same
 
-aimed-moving : (l : Line) → samePoint l.start l.end ≡ false → delta l ≡ aimed l
+aimed-moving : (l : Line) → same_point l.start l.end ≡ false → delta l ≡ aimed l
 unfolding aimed
 aimed-moving l apart = rw apart
 
-still-delta : (l : Line) → samePoint l.start l.end ≡ true → Still l
+still-delta : (l : Line) → same_point l.start l.end ≡ true → Still l
 unfolding delta minus
 still-delta l same =
     let is = (same-exactly l.start l.end).0 same in
@@ -118,28 +118,28 @@ same_by p o x y =
     let y-is : p.y ≡ o.y = omega (linear, diff p.y o.y, abs-parts (p.y -ℤ o.y)) in
     point-is x-is y-is
 
-fresh-by : (l : Line) (e : Edge) → e.point ≡ l.start → e.extra ≡ false → e ≡ freshEdge l
+fresh-by : (l : Line) (e : Edge) → e.point ≡ l.start → e.extra ≡ false → e ≡ fresh_edge l
 fresh-by l e at plain = rw (at, plain)
 
 module _ {l : Line} {w : ℕ} (fits : Fits l w) where
   abbrev ends : Ends
-  ends = lasts (freshEnds l) (parallelsOf l (pos w) None)
+  ends = lasts (fresh_ends l) (parallels_of l (pos w) None)
 
   edge-is : (side : Side) → edge l w side ≡ closed l (plan_of l (pos w) None).parallel (edge_at side ends)
-  unfolding extentsOf
+  unfolding extents_of
   edge-is Left = refl
   edge-is Right = refl
 
-  marked : (side : Side) → Marked (plan_of l (pos w) None) l.start side (edge_at side ends) (markAt l w side)
+  marked : (side : Side) → Marked (plan_of l (pos w) None) l.start side (edge_at side ends) (mark_at l w side)
   marked Left = (edges-marched l w fits.near fits.small).left
   marked Right = (edges-marched l w fits.near fits.small).right
 
   pub some : 1 ≤ larger l
-  unfolding plan_of planAlong
-  some = let m = measured (aimed l) (pos w) None in omega (linear, m.across-is.far, (sound-plan l (pos w) None fits.near fits.small).across-fair.some)
+  unfolding plan_of plan_along
+  some = let m = measured (aimed l) (pos w) None in omega (linear, m.across-is.far, (sound-plan l (pos w) None fits.near fits.small).across_fair.some)
 
   pub starts-at : (side : Side) → StartsAt l w side
-  unfolding plan_of planAlong closed
+  unfolding plan_of plan_along closed
   starts-at side =
       let at = ap (λ x. x.start) (edge-is side) in
       record {
@@ -148,54 +148,54 @@ module _ {l : Line} {w : ℕ} (fits : Fits l w) where
       }
 
   -- an edge of no steps is the leg itself
-  pub bare-edge : (side : Side) → markAt l w side ≡ mark_of 0 0 false → edge l w side ≡ l
-  unfolding plan_of planAlong
+  pub bare-edge : (side : Side) → mark_at l w side ≡ mark_of 0 0 false → edge l w side ≡ l
+  unfolding plan_of plan_along
   bare-edge side is =
       let m = marked side in
       let e = edge_at side ends in
       let v = minus e.point l.start in
-      let x = none_out side (dotProduct (major (aimed l)) v) (m.strode.major ∙ ap (λ r. pos r.n) is) in
-      let y = none_out side (dotProduct (minor (aimed l)) v) (m.strode.minor ∙ ap (λ r. pos r.e) is) in
+      let x = none_out side (dot_product (major (aimed l)) v) (m.strode.major ∙ ap (λ r. pos r.n) is) in
+      let y = none_out side (dot_product (minor (aimed l)) v) (m.strode.minor ∙ ap (λ r. pos r.e) is) in
       let at = ⊎_elim (λ s. same_by e.point l.start (sym s.0 ∙ x) (sym s.1 ∙ y)) (λ s. same_by e.point l.start (sym s.1 ∙ y) (sym s.0 ∙ x)) (sizes (aimed l) v) in
-      let fresh : e ≡ freshEdge l = fresh-by l e at (m.extra ∙ ap (λ r. r.extra) is) in
+      let fresh : e ≡ fresh_edge l = fresh-by l e at (m.extra ∙ ap (λ r. r.extra) is) in
       edge-is side ∙ ap (closed l (plan_of l (pos w) None).parallel) fresh ∙ closed-fresh l (plan_of l (pos w) None).parallel
 
-  pub delta-normal : (side : Side) → (markAt l w side).extra ≡ false → delta (edge l w side) ≡ delta l
+  pub delta-normal : (side : Side) → (mark_at l w side).extra ≡ false → delta (edge l w side) ≡ delta l
   delta-normal side t = ap delta (edge-is side) ∙ (closed-normal l (plan_of l (pos w) None).parallel (edge_at side ends) ((marked side).extra ∙ t)).0
 
-  pub delta-extra : (side : Side) → (markAt l w side).extra ≡ true → delta (edge l w side) ≡ minus (delta l) (reduce (aimed l))
-  unfolding plan_of planAlong
+  pub delta-extra : (side : Side) → (mark_at l w side).extra ≡ true → delta (edge l w side) ≡ minus (delta l) (reduce (aimed l))
+  unfolding plan_of plan_along
   delta-extra side t = ap delta (edge-is side) ∙ (closed-extra l (plan_of l (pos w) None).parallel (edge_at side ends) ((marked side).extra ∙ t)).0
 
   module _ (wide : 1 ≤ w) (side : Side) where
-    fairly : (s : Side) → Fairly (larger l) (smaller l) (markAt l w s)
+    fairly : (s : Side) → Fairly (larger l) (smaller l) (mark_at l w s)
     fairly Left = (paid_for some (less l) wide (flip l w)).left-fairly
     fairly Right = (paid_for some (less l) wide (flip l w)).right-fairly
 
     -- an Extra edge has a smaller delta that is not 0
-    pub short : (markAt l w side).extra ≡ true → 1 ≤ smaller l
-    short x = let m = markAt l w side in some-short (larger l) (smaller l) m.n m.e some ((fairly side).late x)
+    pub short : (mark_at l w side).extra ≡ true → 1 ≤ smaller l
+    short x = let m = mark_at l w side in some-short (larger l) (smaller l) m.n m.e some ((fairly side).late x)
 
     -- when an edge comes to the square round z, seen from the leg's start, and from its end
     module _ (aim : delta l ≡ aimed l) {z : Point} (h : Touches (edge l w side) z) where
-      pub seen_start : Sighted (larger l) (smaller l) (along l side z l.start) (aside l side z l.start) (pos 0) (markAt l w side)
+      pub seen_start : Sighted (larger l) (smaller l) (along l side z l.start) (aside l side z l.start) (pos 0) (mark_at l w side)
       seen_start = sighted-start l w aim side (marked side) short z (rw (edge-is side) at h)
 
-      pub seen_end : Sighted (larger l) (smaller l) (along l side z l.end) (aside l side z l.end) (step l side) (markAt l w side)
+      pub seen_end : Sighted (larger l) (smaller l) (along l side z l.end) (aside l side z l.end) (step l side) (mark_at l w side)
       seen_end = sighted-end l w aim side (marked side) short z (rw (edge-is side) at h)
 
     pub ends_at : EndsAt l w side
-    unfolding plan_of planAlong
+    unfolding plan_of plan_along
     ends_at = by m.extra refl
       where
         m : Mark
-        m = markAt l w side
+        m = mark_at l w side
 
         p : Point
         p = (edge_at side ends).point
 
-        at : (c : Point) {q : Point} → (closed l (plan_of l (pos w) None).parallel (edge_at side ends)).end ≡ q → outward side (dotProduct c (minus (edge l w side).end l.end)) ≡ outward side (dotProduct c (minus q l.end))
-        at c is = ap (λ q. outward side (dotProduct c (minus q l.end))) (ap (λ x. x.end) (edge-is side) ∙ is)
+        at : (c : Point) {q : Point} → (closed l (plan_of l (pos w) None).parallel (edge_at side ends)).end ≡ q → outward side (dot_product c (minus (edge l w side).end l.end)) ≡ outward side (dot_product c (minus q l.end))
+        at c is = ap (λ q. outward side (dot_product c (minus q l.end))) (ap (λ x. x.end) (edge-is side) ∙ is)
 
         by : (t : Bool) → m.extra ≡ t → EndsAt l w side
         by false t =
@@ -207,28 +207,28 @@ module _ {l : Line} {w : ℕ} (fits : Fits l w) where
         by true t =
             let c = closed-extra l (plan_of l (pos w) None).parallel (edge_at side ends) ((marked side).extra ∙ t) in
             let s = reduce (aimed l) in
-            let back : outward side (dotProduct (minor (aimed l)) s) ≡ neg_ℤ (step l side) = ap (outward side) (opposite-steps (aimed l) (short t)) ∙ outward-back side (dotProduct (major (aimed l)) s) in
+            let back : outward side (dot_product (minor (aimed l)) s) ≡ neg_ℤ (step l side) = ap (outward side) (opposite-steps (aimed l) (short t)) ∙ outward-back side (dot_product (major (aimed l)) s) in
             record {
               major-at =
                   rw t
-                  (at (major (aimed l)) c.1 ∙ ap (outward side) (to-cut (major (aimed l)) p l s) ∙ outward-minus side (dotProduct (major (aimed l)) (minus p l.start)) (dotProduct (major (aimed l)) s)
+                  (at (major (aimed l)) c.1 ∙ ap (outward side) (to-cut (major (aimed l)) p l s) ∙ outward-minus side (dot_product (major (aimed l)) (minus p l.start)) (dot_product (major (aimed l)) s)
                   ∙ ap (λ x. x -ℤ step l side) (marked side).strode.major);
               minor-at =
                   rw t
-                  (at (minor (aimed l)) c.1 ∙ ap (outward side) (to-cut (minor (aimed l)) p l s) ∙ outward-minus side (dotProduct (minor (aimed l)) (minus p l.start)) (dotProduct (minor (aimed l)) s)
-                  ∙ ap (λ x. x -ℤ outward side (dotProduct (minor (aimed l)) s)) (marked side).strode.minor ∙ ap (λ x. pos m.e -ℤ x) back ∙ ap (λ x. pos m.e +ℤ x) (neg_ℤ-neg_ℤ (step l side)));
+                  (at (minor (aimed l)) c.1 ∙ ap (outward side) (to-cut (minor (aimed l)) p l s) ∙ outward-minus side (dot_product (minor (aimed l)) (minus p l.start)) (dot_product (minor (aimed l)) s)
+                  ∙ ap (λ x. x -ℤ outward side (dot_product (minor (aimed l)) s)) (marked side).strode.minor ∙ ap (λ x. pos m.e -ℤ x) back ∙ ap (λ x. pos m.e +ℤ x) (neg_ℤ-neg_ℤ (step l side)));
             }
 
     -- a leg from a point to itself has edges without length
-    still-leg : samePoint l.start l.end ≡ true → Still (edge l w side)
-    still-leg same = by (markAt l w side).extra refl
+    still-leg : same_point l.start l.end ≡ true → Still (edge l w side)
+    still-leg same = by (mark_at l w side).extra refl
       where
-        by : (t : Bool) → (markAt l w side).extra ≡ t → Still (edge l w side)
+        by : (t : Bool) → (mark_at l w side).extra ≡ t → Still (edge l w side)
         by false t = rw (delta-normal side t) (still-delta l same)
         by true t = absurd (omega (arith, short t, aimed-still l same))
 
     -- and so has one of 1 and 1 where it is Extra
-    still-extra : delta l ≡ aimed l → (markAt l w side).extra ≡ true → larger l + smaller l ≤ 2 → Still (edge l w side)
+    still-extra : delta l ≡ aimed l → (mark_at l w side).extra ≡ true → larger l + smaller l ≤ 2 → Still (edge l w side)
     still-extra aim t few =
         let d = delta (edge l w side) in
         let size : nat_abs d.x + nat_abs d.y + 2 ≡ larger l + smaller l = rw (delta-extra side t, aim) (cut-size (aimed l) (short t)) in
@@ -236,9 +236,9 @@ module _ {l : Line} {w : ℕ} (fits : Fits l w) where
 
     -- any other has one
     pub solid : (Still (edge l w side) → ⊥) → Solid l w side
-    solid moves = by (samePoint l.start l.end) refl
+    solid moves = by (same_point l.start l.end) refl
       where
-        by : (t : Bool) → samePoint l.start l.end ≡ t → Solid l w side
+        by : (t : Bool) → same_point l.start l.end ≡ t → Solid l w side
         by true same = absurd (moves (still-leg same))
         by false apart =
             let aim = aimed-moving l apart in

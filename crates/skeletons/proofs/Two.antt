@@ -16,11 +16,11 @@ use Rattle.shapes.specs.declared.Point.{Point}
 use Rattle.shapes.specs.declared.Line.{Line}
 use Rattle.shapes.specs.declared.Side.TheVariants.{Left}
 use Rattle.shapes.specs.declared.Side.{Side}
-use Rattle.shapes.specs.Shape.{point_of, line_of, minus, determinant, dotProduct, delta}
+use Rattle.shapes.specs.Shape.{point_of, line_of, minus, determinant, dot_product, delta}
 use Rattle.bresenham.proofs.Laws.{longer, shorter}
 use Rattle.parallels.specs.Parallels.{aimed}
 use Rattle.intersection_params.specs.declared.Solution.{Solution}
-use Rattle.intersection_params.specs.Crossing.{solutionOf}
+use Rattle.intersection_params.specs.Crossing.{solution_of}
 use Rattle.intersection_params.proofs.Laws.{solution-true}
 use Rattle.intersection_params.specs.Words.{OnLine, IsDrawn}
 use Rattle.skeletons.proofs.Firsts.{Beside, beside_two}
@@ -111,8 +111,8 @@ module _ (t : Solution) (q : Point) where
   abbrev pub from : Point → Point
   from p = point_of (t.x -ℤ n *ℤ p.x) (t.y -ℤ n *ℤ p.y)
 
-  from-point : (c p : Point) → dotProduct c (from p) ≡ dotProduct c (from q) -ℤ n *ℤ dotProduct c (minus p q)
-  unfolding dotProduct minus
+  from-point : (c p : Point) → dot_product c (from p) ≡ dot_product c (from q) -ℤ n *ℤ dot_product c (minus p q)
+  unfolding dot_product minus
   from-point c p =
       ring 9 (λ n x y u v p r a b. u ⊗ (x ⊖ n ⊗ p) ⊕ v ⊗ (y ⊖ n ⊗ r) ≈ (u ⊗ (x ⊖ n ⊗ a) ⊕ v ⊗ (y ⊖ n ⊗ b)) ⊖ n ⊗ (u ⊗ (p ⊖ a) ⊕ v ⊗ (r ⊖ b))) refl n t.x t.y c.x c.y p.x p.y q.x q.y
 
@@ -122,13 +122,13 @@ module _ (t : Solution) (q : Point) where
       ring 7 (λ n x y a b p r. (p ⊖ a) ⊗ (y ⊖ n ⊗ r) ⊖ (r ⊖ b) ⊗ (x ⊖ n ⊗ p) ≈ (p ⊖ a) ⊗ (y ⊖ n ⊗ b) ⊖ (r ⊖ b) ⊗ (x ⊖ n ⊗ a)) refl n t.x t.y l.start.x l.start.y l.end.x l.end.y
 
 -- it lies on a line of a delta, or of one that is shorter
-on-normal : (d v : Point) → determinant d v ≡ pos 0 → pos (longer d) *ℤ dotProduct (major d) v +ℤ pos (shorter d) *ℤ dotProduct (minor d) v ≡ pos 0
-on-normal d v e = ring 1 (λ x. since (con (negsuc 0)) (neg x) (con (pos 0)) (x ≈ con (pos 0))) refl (pos (longer d) *ℤ dotProduct (major d) v +ℤ pos (shorter d) *ℤ dotProduct (minor d) v) (sym (across-delta d v) ∙ e)
+on-normal : (d v : Point) → determinant d v ≡ pos 0 → pos (longer d) *ℤ dot_product (major d) v +ℤ pos (shorter d) *ℤ dot_product (minor d) v ≡ pos 0
+on-normal d v e = ring 1 (λ x. since (con (negsuc 0)) (neg x) (con (pos 0)) (x ≈ con (pos 0))) refl (pos (longer d) *ℤ dot_product (major d) v +ℤ pos (shorter d) *ℤ dot_product (minor d) v) (sym (across-delta d v) ∙ e)
 
-on-extra : (d v : Point) (a b : ℕ) → longer d ≡ a + 1 → shorter d ≡ b + 1 → determinant (minus d (reduce d)) v ≡ pos 0 → pos a *ℤ dotProduct (major d) v +ℤ pos b *ℤ dotProduct (minor d) v ≡ pos 0
+on-extra : (d v : Point) (a b : ℕ) → longer d ≡ a + 1 → shorter d ≡ b + 1 → determinant (minus d (reduce d)) v ≡ pos 0 → pos a *ℤ dot_product (major d) v +ℤ pos b *ℤ dot_product (minor d) v ≡ pos 0
 on-extra d v a b larger-is smaller-is e =
-    let x = dotProduct (major d) v in
-    let y = dotProduct (minor d) v in
+    let x = dot_product (major d) v in
+    let y = dot_product (minor d) v in
     let is = sym (across-cut d v) ∙ e in
     let far : neg_ℤ (pos (longer d) *ℤ x +ℤ pos (shorter d) *ℤ y) -ℤ neg_ℤ (x +ℤ y) ≡ pos 0 = rw (across-delta d v, across-reduce d (omega (arith, smaller-is)) v) at is in
     let parts : neg_ℤ (pos (a + 1) *ℤ x +ℤ pos (b + 1) *ℤ y) -ℤ neg_ℤ (x +ℤ y) ≡ pos 0 = rw (larger-is, smaller-is) at far in
@@ -152,17 +152,17 @@ module _ {l : Line} (fits : Fits l 2) (t : Solution) (moves : t.determinant ≢ 
 
   -- how far the crossing is along the axes
   abbrev along : Point → ℤ
-  along q = dotProduct (major d) (from t q q)
+  along q = dot_product (major d) (from t q q)
 
   abbrev beyond : Point → ℤ
-  beyond q = dotProduct (minor d) (from t q q)
+  beyond q = dot_product (minor d) (from t q q)
 
   -- by an equation for a Normal edge, or for an Extra one
-  module _ (q p : Point) (x y : ℤ) (on : determinant (delta E) (from t q p) ≡ pos 0) (x-is : dotProduct (major d) (minus p q) ≡ x) (y-is : dotProduct (minor d) (minus p q) ≡ y) where
-    x-way : dotProduct (major d) (from t q p) ≡ along q -ℤ t.determinant *ℤ x
+  module _ (q p : Point) (x y : ℤ) (on : determinant (delta E) (from t q p) ≡ pos 0) (x-is : dot_product (major d) (minus p q) ≡ x) (y-is : dot_product (minor d) (minus p q) ≡ y) where
+    x-way : dot_product (major d) (from t q p) ≡ along q -ℤ t.determinant *ℤ x
     x-way = from-point t q (major d) p ∙ ap (λ k. along q -ℤ t.determinant *ℤ k) x-is
 
-    y-way : dotProduct (minor d) (from t q p) ≡ beyond q -ℤ t.determinant *ℤ y
+    y-way : dot_product (minor d) (from t q p) ≡ beyond q -ℤ t.determinant *ℤ y
     y-way = from-point t q (minor d) p ∙ ap (λ k. beyond q -ℤ t.determinant *ℤ k) y-is
 
     by-normal : (counts l 2).left.extra ≡ false → pos (longer d) *ℤ (along q -ℤ t.determinant *ℤ x) +ℤ pos (shorter d) *ℤ (beyond q -ℤ t.determinant *ℤ y) ≡ pos 0
@@ -196,10 +196,10 @@ module _ {l : Line} (fits : Fits l 2) (t : Solution) (moves : t.determinant ≢ 
   start-half : OnLine E t → 2 * nat_abs (along l.start) ≤ nat_abs t.determinant → 2 * nat_abs (beyond l.start) ≤ nat_abs t.determinant → (longer d ≡ shorter d) × Halves t.determinant (along l.start) (beyond l.start)
   start-half on p r = by (counts l 2).left.extra refl
     where
-      x-is : dotProduct (major d) (minus E.start l.start) ≡ pos 1
+      x-is : dot_product (major d) (minus E.start l.start) ≡ pos 1
       x-is = (starts-at fits Left).major-at ∙ ap pos (two-beside fits).one
 
-      y-is : dotProduct (minor d) (minus E.start l.start) ≡ pos 0
+      y-is : dot_product (minor d) (minus E.start l.start) ≡ pos 0
       y-is = (starts-at fits Left).minor-at ∙ ap pos (two-beside fits).none
 
       by : (u : Bool) → (counts l 2).left.extra ≡ u → (longer d ≡ shorter d) × Halves t.determinant (along l.start) (beyond l.start)
@@ -219,10 +219,10 @@ module _ {l : Line} (fits : Fits l 2) (t : Solution) (moves : t.determinant ≢ 
       on-end : determinant (delta E) (from t l.end E.end) ≡ pos 0
       on-end = from_either t l.end E ∙ on
 
-      x-is : dotProduct (major d) (minus E.end l.end) ≡ pos 1 -ℤ off (counts l 2).left.extra s
+      x-is : dot_product (major d) (minus E.end l.end) ≡ pos 1 -ℤ off (counts l 2).left.extra s
       x-is = (ends_at fits (omega arith) Left).major-at ∙ ap (λ k. pos k -ℤ off (counts l 2).left.extra s) (two-beside fits).one
 
-      y-is : dotProduct (minor d) (minus E.end l.end) ≡ pos 0 +ℤ off (counts l 2).left.extra s
+      y-is : dot_product (minor d) (minus E.end l.end) ≡ pos 0 +ℤ off (counts l 2).left.extra s
       y-is = (ends_at fits (omega arith) Left).minor-at ∙ ap (λ k. pos k +ℤ off (counts l 2).left.extra s) (two-beside fits).none
 
       by : (u : Bool) → (counts l 2).left.extra ≡ u → (longer d ≡ shorter d) × Halves t.determinant (along l.end) (beyond l.end)
@@ -237,25 +237,25 @@ module _ {l : Line} (fits : Fits l 2) (t : Solution) (moves : t.determinant ≢ 
 
   -- then the step that an Extra edge is shorter is square to the way from there, and the edge is so many of them
   record Diagonal (v : Point) : Type 0 where
-    square : dotProduct (reduce d) v ≡ pos 0
+    square : dot_product (reduce d) v ≡ pos 0
     times-of : ℤ
     x-of : (delta E).x ≡ times-of *ℤ (reduce d).x
     y_of : (delta E).y ≡ times-of *ℤ (reduce d).y
 
-  diagonal-by : (v : Point) → longer d ≡ shorter d → Halves t.determinant (dotProduct (major d) v) (dotProduct (minor d) v) → Diagonal v
+  diagonal-by : (v : Point) → longer d ≡ shorter d → Halves t.determinant (dot_product (major d) v) (dot_product (minor d) v) → Diagonal v
   unfolding minus
   diagonal-by v equal h = by (counts l 2).left.extra refl
     where
       one : 1 ≤ shorter d
       one = omega (arith, equal, some fits)
 
-      same : dotProduct (major d) v ≡ dotProduct (minor d) v
-      same = *ℤ-cancel (pos 2) (dotProduct (major d) v) (dotProduct (minor d) v) (λ z. omega (arith, ap nat_abs z)) (h.x-half ∙ sym h.y-half)
+      same : dot_product (major d) v ≡ dot_product (minor d) v
+      same = *ℤ-cancel (pos 2) (dot_product (major d) v) (dot_product (minor d) v) (λ z. omega (arith, ap nat_abs z)) (h.x-half ∙ sym h.y-half)
 
-      flat : dotProduct (reduce d) v ≡ pos 0
+      flat : dot_product (reduce d) v ≡ pos 0
       flat =
-          product d (reduce d) v ∙ ap (λ k. dotProduct (major d) (reduce d) *ℤ dotProduct (major d) v +ℤ k *ℤ dotProduct (minor d) v) (opposite-steps d one)
-          ∙ ring 3 (λ s x y. since s x y (s ⊗ x ⊕ neg s ⊗ y ≈ con (pos 0))) refl (dotProduct (major d) (reduce d)) (dotProduct (major d) v) (dotProduct (minor d) v) same
+          product d (reduce d) v ∙ ap (λ k. dot_product (major d) (reduce d) *ℤ dot_product (major d) v +ℤ k *ℤ dot_product (minor d) v) (opposite-steps d one)
+          ∙ ring 3 (λ s x y. since s x y (s ⊗ x ⊕ neg s ⊗ y ≈ con (pos 0))) refl (dot_product (major d) (reduce d)) (dot_product (major d) v) (dot_product (minor d) v) same
 
       by : (u : Bool) → (counts l 2).left.extra ≡ u → Diagonal v
       by false e =
@@ -269,8 +269,8 @@ module _ {l : Line} (fits : Fits l 2) (t : Solution) (moves : t.determinant ≢ 
 
 -- ---- two directions that are square to one way are one
 
-square-both : (s u v : Point) → dotProduct s v ≡ pos 0 → dotProduct u v ≡ pos 0 → determinant s u *ℤ dotProduct v v ≡ pos 0
-unfolding determinant dotProduct
+square-both : (s u v : Point) → dot_product s v ≡ pos 0 → dot_product u v ≡ pos 0 → determinant s u *ℤ dot_product v v ≡ pos 0
+unfolding determinant dot_product
 square-both s u v p q =
     ring 6 (λ a b c d x y. since (d ⊗ x ⊖ c ⊗ y) (a ⊗ x ⊕ b ⊗ y) (con (pos 0)) (since (a ⊗ y ⊖ b ⊗ x) (c ⊗ x ⊕ d ⊗ y) (con (pos 0)) ((a ⊗ d ⊖ b ⊗ c) ⊗ (x ⊗ x ⊕ y ⊗ y) ≈ con (pos 0)))) refl s.x s.y u.x u.y v.x v.y p q
 
@@ -286,8 +286,8 @@ some-half : (d x : ℤ) → d ≢ pos 0 → pos 2 *ℤ x ≡ d → 1 ≤ nat_abs
 some-half d x moves e = ⊎_elim (λ more. more) (λ none. absurd (omega (arith, some-abs d moves, ap nat_abs e, abs-mul (pos 2) x))) (le-or-lt 1 (nat_abs x))
 
 -- a way that is not still has a square
-some-square : (v : Point) → 1 ≤ nat_abs v.x → dotProduct v v ≢ pos 0
-unfolding dotProduct
+some-square : (v : Point) → 1 ≤ nat_abs v.x → dot_product v v ≢ pos 0
+unfolding dot_product
 some-square v one e = let square = rw (square-is v.x, square-is v.y) at e in omega (linear, square, mul-le-mul {n₁ = 1} {m₁ = 1} one one)
 
 gap-turned : (x d a : ℤ) → nat_abs (x -ℤ d *ℤ a) ≡ nat_abs (a *ℤ d -ℤ x)
@@ -321,20 +321,20 @@ module _ {p q r : Point} (first_fits : Fits (line_of p q) 2) (second_fits : Fits
 
   pub two-never : {s : Side} → IsDrawn second first q s → Solid (line_of p q) 2 Left → Solid (line_of q r) 2 Left → ⊥
   two-never drawn before after =
-      let t = solutionOf second first in
+      let t = solution_of second first in
       let real = solution-true second first drawn.crosses in
       let n = t.determinant in
       let v = from t q q in
       let c = aimed (line_of p q) in
       let d = aimed (line_of q r) in
-      let x-small : 2 * nat_abs v.x ≤ nat_abs n = rw (gap-turned t.x n q.x) (drawn.nearest-x t real).near in
-      let y-small : 2 * nat_abs v.y ≤ nat_abs n = rw (gap-turned t.y n q.y) (drawn.nearest-y t real).near in
-      let both = small_by (nat_abs (dotProduct (major d) v)) (nat_abs (dotProduct (minor d) v)) (nat_abs n) v (sizes d v) x-small y-small in
-      let h = start-half second_fits t real.some after real.on-first both.0 both.1 in
-      let halves = half-by (nat_abs (dotProduct (major d) v)) (nat_abs (dotProduct (minor d) v)) (nat_abs (dotProduct (major c) v)) (nat_abs (dotProduct (minor c) v)) (nat_abs n) v (sizes d v) (sizes c v) (half-size n (dotProduct (major d) v) h.1.x-half) (half-size n (dotProduct (minor d) v) h.1.y-half) in
-      let k = end-half first_fits t real.some before real.on-second halves.0 halves.1 in
+      let x-small : 2 * nat_abs v.x ≤ nat_abs n = rw (gap-turned t.x n q.x) (drawn.nearest_x t real).near in
+      let y-small : 2 * nat_abs v.y ≤ nat_abs n = rw (gap-turned t.y n q.y) (drawn.nearest_y t real).near in
+      let both = small_by (nat_abs (dot_product (major d) v)) (nat_abs (dot_product (minor d) v)) (nat_abs n) v (sizes d v) x-small y-small in
+      let h = start-half second_fits t real.some after real.on_first both.0 both.1 in
+      let halves = half-by (nat_abs (dot_product (major d) v)) (nat_abs (dot_product (minor d) v)) (nat_abs (dot_product (major c) v)) (nat_abs (dot_product (minor c) v)) (nat_abs n) v (sizes d v) (sizes c v) (half-size n (dot_product (major d) v) h.1.x-half) (half-size n (dot_product (minor d) v) h.1.y-half) in
+      let k = end-half first_fits t real.some before real.on_second halves.0 halves.1 in
       let e = diagonal-by second_fits t real.some after v h.0 h.1 in
       let f = diagonal-by first_fits t real.some before v k.0 k.1 in
-      let moved = some-either (nat_abs (dotProduct (major d) v)) (nat_abs (dotProduct (minor d) v)) v (sizes d v) (some-half n (dotProduct (major d) v) real.some h.1.x-half) (some-half n (dotProduct (minor d) v) real.some h.1.y-half) in
-      let flat = *ℤ-null (dotProduct v v) (determinant (reduce d) (reduce c)) (some-square v moved) (*ℤ_comm (dotProduct v v) (determinant (reduce d) (reduce c)) ∙ square-both (reduce d) (reduce c) v e.square f.square) in
+      let moved = some-either (nat_abs (dot_product (major d) v)) (nat_abs (dot_product (minor d) v)) v (sizes d v) (some-half n (dot_product (major d) v) real.some h.1.x-half) (some-half n (dot_product (minor d) v) real.some h.1.y-half) in
+      let flat = *ℤ-null (dot_product v v) (determinant (reduce d) (reduce c)) (some-square v moved) (*ℤ_comm (dot_product v v) (determinant (reduce d) (reduce c)) ∙ square-both (reduce d) (reduce c) v e.square f.square) in
       drawn.crosses (multiples (delta second) (delta first) (reduce d) (reduce c) e.times-of f.times-of e.x-of e.y_of f.x-of f.y_of flat)

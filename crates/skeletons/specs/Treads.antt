@@ -17,8 +17,8 @@ pub record Mark : Type 0 where
   pub e : ℕ
   pub extra : Bool
 
-abbrev pub treadOf : ℕ → ℕ → ℕ → Tread
-treadOf n e k = record { n = n; e = e; k = k }
+abbrev pub tread_of : ℕ → ℕ → ℕ → Tread
+tread_of n e k = record { n = n; e = e; k = k }
 
 abbrev pub mark_of : ℕ → ℕ → Bool → Mark
 mark_of n e x = record { n = n; e = e; extra = x }
@@ -41,13 +41,13 @@ module _ (a b : ℕ) where
   kept_at false e k = ltb (2 * a * k + a) (2 * b * (e + 1))
 
   -- the next parallel of a side: an Extra point that does not carry is passed over
-  unfoldable pub trodBy : Bool → Bool → Tread → Trod
-  trodBy false kept t = record { mark = mark_of t.n t.e false; after = treadOf (t.n + 1) t.e t.k }
-  trodBy true true t = record { mark = mark_of t.n t.e true; after = treadOf t.n (t.e + 1) (t.k + 1) }
-  trodBy true false t = record { mark = mark_of t.n (t.e + 1) false; after = treadOf (t.n + 1) (t.e + 1) t.k }
+  unfoldable pub trod_by : Bool → Bool → Tread → Trod
+  trod_by false kept t = record { mark = mark_of t.n t.e false; after = tread_of (t.n + 1) t.e t.k }
+  trod_by true true t = record { mark = mark_of t.n t.e true; after = tread_of t.n (t.e + 1) (t.k + 1) }
+  trod_by true false t = record { mark = mark_of t.n (t.e + 1) false; after = tread_of (t.n + 1) (t.e + 1) t.k }
 
   unfoldable pub trod : Side → Bool → Tread → Trod
-  trod side falling t = trodBy (due_at side t.n t.e) (kept_at falling t.e t.k) t
+  trod side falling t = trod_by (due_at side t.n t.e) (kept_at falling t.e t.k) t
 
 -- ---- both sides in turn, as of a stroke on both sides of its line
 
@@ -71,22 +71,22 @@ pub record Arrived : Type 0 where
   pub right : Mark
   pub sum : ℕ
 
-abbrev pub arrivedAt : Side → March → Arrived
-arrivedAt Left s = record { left = s.here; right = s.there; sum = s.sum }
-arrivedAt Right s = record { left = s.there; right = s.here; sum = s.sum }
+abbrev pub arrived_at : Side → March → Arrived
+arrived_at Left s = record { left = s.here; right = s.there; sum = s.sum }
+arrived_at Right s = record { left = s.there; right = s.here; sum = s.sum }
 
 -- after at most n more, while the accumulator's square is not above `most`
 unfoldable pub march : ℕ → ℕ → ℕ → Bool → ℕ → Side → March → Arrived
-march zero a b flip most side s = arrivedAt side s
-march (suc n) a b flip most side s = let more = march n a b flip most (swapped side) (stepped a b flip side s) in cond (ltb most (s.sum * s.sum)) (arrivedAt side s) more
+march zero a b flip most side s = arrived_at side s
+march (suc n) a b flip most side s = let more = march n a b flip most (swapped side) (stepped a b flip side s) in cond (ltb most (s.sum * s.sum)) (arrived_at side s) more
 
 -- before the first: the right side is next, and the left one skips the line itself
-abbrev pub setOut : ℕ → ℕ → March
-setOut a b = record { this = treadOf 0 0 0; other = treadOf 1 0 0; here = mark_of 0 0 false; there = mark_of 0 0 false; sum = a + b }
+abbrev pub set_out : ℕ → ℕ → March
+set_out a b = record { this = tread_of 0 0 0; other = tread_of 1 0 0; here = mark_of 0 0 false; there = mark_of 0 0 false; sum = a + b }
 
 abbrev pub most_of : ℕ → ℕ → ℕ → ℕ
 most_of a b w = 2 * w * (2 * w) * (a * a + b * b)
 
 -- all of them
 unfoldable pub marched : ℕ → ℕ → Bool → ℕ → Arrived
-marched a b flip w = march (suc (most_of a b w) - (a + b)) a b flip (most_of a b w) Right (setOut a b)
+marched a b flip w = march (suc (most_of a b w) - (a + b)) a b flip (most_of a b w) Right (set_out a b)

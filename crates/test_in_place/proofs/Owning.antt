@@ -41,7 +41,7 @@ use denote.Triple.Entry.{on_entry}
 use denote.Triple.Spec.{Meets, triple_of}
 use denote.Triple.Walked.{says, Stays, stay_dropped, stay_none_slice, walk_of, AllGo, Goes-dropped, Goes-none_slice, Walks, ends_at, walked, walk_Meets}
 use Rattle.route_joins.specs.declared.Step.{Step}
-use Rattle.route_joins.specs.Steps.{stepValues}
+use Rattle.route_joins.specs.Steps.{step_values}
 use Rattle.route_joins.specs.contracts.Step as E
 use Rattle.route_joins.proofs.Step.TheLaws as E'
 use Rattle.walks_in_place.proofs.Stepping.{Walker, Walk, T, S, answer, answer-laws, mach, told, head-is, in_place, promised}
@@ -100,7 +100,7 @@ module _ (K : Walker) (O : Owner K) where
 
   module _ {M : Type 1} {𝓤 : Ura M} (𝓛 : Logic 𝓤) where
     abbrev pub owed : Clauses 𝓤 owner
-    owed κs a = record { ghost = Unit {0}; requires = λ g. emp 𝓤; ensures = λ g r e. fact 𝓤 ((stepValues (K.step r) ≡ K.step_of a.0.now a.1.0) × (K.walk r ≡ K.walkAfter a.0.now a.1.0)) }
+    owed κs a = record { ghost = Unit {0}; requires = λ g. emp 𝓤; ensures = λ g r e. fact 𝓤 ((step_values (K.step r) ≡ K.step_of a.0.now a.1.0) × (K.walk r ≡ K.walk_after a.0.now a.1.0)) }
 
     abbrev pub InPlace : Contract 𝓤
     InPlace = triple_of 𝓛 (in_place K).signature (closing 𝓛 (in_place K) (promised K 𝓛))
@@ -134,13 +134,13 @@ module _ (K : Walker) (O : Owner K) where
     Post = (walk_of 𝓛 owner stayed (owed 𝓛)).post (((κ, tt), (q, tt), tt, a, vals), tt)
 
     abbrev Answered : Step → Walk K → Type 0
-    Answered s w = (stepValues s ≡ K.step_of y.now h) × (w ≡ K.walkAfter y.now h)
+    Answered s w = (step_values s ≡ K.step_of y.now h) × (w ≡ K.walk_after y.now h)
 
     exits : (s : Step) (w : Walk K) → Is (S K) (made s w) (pair s w ∷ []) → Answered s w → ent 𝓤 (⋆ 𝓛 ((‵ (flft κ q) ⊛ ‵ ftrue) ∷ ‵ Shr ∷ [])) (Post (pair s w))
     exits s w is e =
         qed 𝓛 ((‵ (flft κ q) ⊛ ‵ ftrue) ∷ ‵ Shr ∷ []) ∵
         suffices ! _ (ends_at 𝓛 owner stayed (owed 𝓛) (((κ, tt), (q, tt), tt, a, vals), tt) (pair s w) (made s w) (tt, (last_of ((T K).exit yes) h still, tt)) (tt, (tt, tt))) $
-        says ! (ap stepValues (O.step-made s w) ∙ e.0, O.walk-made s w ∙ e.1) $ frame ! $ nothing ! $ nothing ! $ fjoin ! $ move ! (1 ∷ 0 ∷ []) $ fjoin ! $ frame ! $
+        says ! (ap step_values (O.step-made s w) ∙ e.0, O.walk-made s w ∙ e.1) $ frame ! $ nothing ! $ nothing ! $ fjoin ! $ move ! (1 ∷ 0 ∷ []) $ fjoin ! $ frame ! $
         owned ! (S K) (Is (S K)) (LL.makes (answer K) (E'.the_field_plain, (LL.field_plain K.walker K.plain, tt)) 𝓛) (made s w) _ is $ done !
 
     module _ (b : ℕ) (κ' : Lft) (γ : GName) where

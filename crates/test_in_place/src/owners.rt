@@ -1,9 +1,9 @@
 //! Owners: each lends what it owns to one of the forms that work in place, and hands it back, from values to values.
 ghost use Rattle.std.specs.Prelude.{◌≡◌};
-ghost use Rattle.route_joins.specs.Steps.{stepValues};
+ghost use Rattle.route_joins.specs.Steps.{step_values};
 ghost use Rattle.shapes.specs.Limits.{panel};
-ghost use Rattle.thick_segment_iter.specs.Walks.{openStep, afterOpen};
-ghost use Rattle.closed_thick_segment_iter.specs.Walks.{closed_step, afterClosed};
+ghost use Rattle.thick_segment_iter.specs.Walks.{open_step, after_open};
+ghost use Rattle.closed_thick_segment_iter.specs.Walks.{closed_step, after_closed};
 ghost use Rattle.test_in_place.specs.Listing.{lists_of};
 
 use board::{Board, Listed, Run};
@@ -20,8 +20,8 @@ pub struct Lists {
 
 /// An open walk stepped in place: what is answered, and the walk as it was left.
 pub fn open_step(coordinates: &[i64], walk: thick_segment_iter::Walk) -> thick_segment_iter::Stepped
-    ensures { (stepValues result.step ≡ openStep panel coordinates.now walk)
-        × (result.walk ≡ afterOpen panel coordinates.now walk) }
+    ensures { (step_values result.step ≡ open_step panel coordinates.now walk)
+        × (result.walk ≡ after_open panel coordinates.now walk) }
 {
     let mut owned = walk;
     let step = step_open(&mut owned, coordinates);
@@ -33,8 +33,8 @@ pub fn closed_step(
     coordinates: &[i64],
     walk: closed_thick_segment_iter::Walk,
 ) -> closed_thick_segment_iter::Stepped
-    ensures { (stepValues result.step ≡ closed_step panel coordinates.now walk)
-        × (result.walk ≡ afterClosed panel coordinates.now walk) }
+    ensures { (step_values result.step ≡ closed_step panel coordinates.now walk)
+        × (result.walk ≡ after_closed panel coordinates.now walk) }
 {
     let mut owned = walk;
     let step = step_closed(&mut owned, coordinates);

@@ -3,10 +3,10 @@ use Rattle.std.specs.Prelude.{cond, List, ℕ, eqb, nat_abs, get_or}
 use Rattle.shapes.specs.declared.Side.TheVariants.{Left, Right}
 use Rattle.line_join.specs.declared.Kind.{Kind}
 use Rattle.line_join.specs.declared.Kind.TheVariants.{Miter, Bevel, Degenerate, Colinear, Start, End}
-use Rattle.line_join.specs.Origins.{noCrossings}
-use Rattle.line_join.specs.Join.{cornersOf}
-use Rattle.test_numbers.specs.Numbers.{numberAt}
-use Rattle.test_text.specs.Questions.{nextPlace, line_at}
+use Rattle.line_join.specs.Origins.{no_crossings}
+use Rattle.line_join.specs.Join.{corners_of}
+use Rattle.test_numbers.specs.Numbers.{number_at}
+use Rattle.test_text.specs.Questions.{next_place, line_at}
 use Rattle.test_joins.specs.declared.JoinAt.{JoinAt}
 
 -- the kinds by their digits, 0 to 6; all else is End
@@ -21,18 +21,18 @@ kind_of d =
     (cond (eqb d 54) Start End))))))
 
 -- the digit, then the position, which has no sign, then the corners at which the line before ends, then those at which the line after begins
-unfoldable pub joinAt : List ℕ → ℕ → JoinAt
-joinAt s at =
-    let p = numberAt s (nextPlace (nextPlace at)) in
-    let a = line_at s (nextPlace p.next) in
+unfoldable pub join_at : List ℕ → ℕ → JoinAt
+join_at s at =
+    let p = number_at s (next_place (next_place at)) in
+    let a = line_at s (next_place p.next) in
     let b = line_at s a.next in
     record {
       join =
           record {
             kind = kind_of (get_or s at 0);
-            ending = cornersOf a.line.start a.line.end;
-            starting = cornersOf b.line.start b.line.end;
-            origins = noCrossings;
+            ending = corners_of a.line.start a.line.end;
+            starting = corners_of b.line.start b.line.end;
+            origins = no_crossings;
             position = nat_abs p.value;
           };
       next = b.next;

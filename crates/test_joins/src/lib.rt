@@ -1,7 +1,7 @@
 //! Joins in the questions and answers of the programs that replay stored questions.
 ghost use Rattle.std.specs.Prelude.{◌≡◌};
-ghost use Rattle.line_join.specs.Join.{cornersOf};
-ghost use Rattle.test_joins.specs.Joins.{kind_of, joinAt};
+ghost use Rattle.line_join.specs.Join.{corners_of};
+ghost use Rattle.test_joins.specs.Joins.{kind_of, join_at};
 
 use line_join::trace::no_crossings;
 use line_join::{Corners, Join, Kind, Origin};
@@ -22,7 +22,7 @@ pub struct JoinAt {
 /// The join at a place: a digit for its kind, its position, and eight coordinates, a byte between each two. The corners at which
 /// the line before it ends come first, left before right; no corner is told to be a crossing. A position has no sign.
 pub fn join_at(s: &[u8], at: usize) -> JoinAt
-    ensures { result ≡ joinAt s.now at }
+    ensures { result ≡ join_at s.now at }
 {
     let kind = kind_of(test_numbers::byte_at(s, at));
     let position = number_at(s, after(after(at)));
@@ -44,7 +44,7 @@ pub fn join_at(s: &[u8], at: usize) -> JoinAt
 
 /// The left and the right corner: a line's start and end.
 fn corners_of(line: Line) -> Corners
-    ensures { result ≡ cornersOf line.start line.end }
+    ensures { result ≡ corners_of line.start line.end }
 {
     let left = line.start;
     let right = line.end;

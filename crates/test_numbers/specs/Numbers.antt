@@ -4,18 +4,18 @@ use Rattle.test_numbers.specs.declared.Digits.{Digits}
 use Rattle.test_numbers.specs.declared.Number.{Number}
 
 -- from '0', 48, to '9', 57
-unfoldable pub isDigit : ℕ → Bool
-isDigit b = leb 48 b && leb b 57
+unfoldable pub is_digit : ℕ → Bool
+is_digit b = leb 48 b && leb b 57
 
 -- at most n digits more, from the place at on, after digits that say v; past the end stands 0, which is no digit
-unfoldable pub digitsFrom : ℕ → List ℕ → ℕ → ℕ → Digits
-digitsFrom zero s v at = record { value = v; next = at }
-digitsFrom (suc n) s v at =
-    cond (isDigit (get_or s at 0)) (digitsFrom n s (v * 10 + (get_or s at 0 - 48)) (at + 1)) (record { value = v; next = at })
+unfoldable pub digits_from : ℕ → List ℕ → ℕ → ℕ → Digits
+digits_from zero s v at = record { value = v; next = at }
+digits_from (suc n) s v at =
+    cond (is_digit (get_or s at 0)) (digits_from n s (v * 10 + (get_or s at 0 - 48)) (at + 1)) (record { value = v; next = at })
 
 -- at most 18 digits from the place at on
-unfoldable pub digitsAt : List ℕ → ℕ → Digits
-digitsAt s at = digitsFrom 18 s 0 at
+unfoldable pub digits_at : List ℕ → ℕ → Digits
+digits_at s at = digits_from 18 s 0 at
 
 -- the number that the digits say
 abbrev pub above : Digits → Number
@@ -26,5 +26,5 @@ abbrev pub below : Digits → Number
 below d = record { value = neg_ℤ (pos d.value); next = d.next }
 
 -- a '-', 45, makes the digits after it a number below 0
-unfoldable pub numberAt : List ℕ → ℕ → Number
-numberAt s at = cond (eqb (get_or s at 0) 45) (below (digitsAt s (at + 1))) (above (digitsAt s at))
+unfoldable pub number_at : List ℕ → ℕ → Number
+number_at s at = cond (eqb (get_or s at 0) 45) (below (digits_at s (at + 1))) (above (digits_at s at))

@@ -1,7 +1,7 @@
 //! Reading a text: a whole number at a place, and the place after a byte.
 ghost use Rattle.std.specs.Prelude.{◌≡◌, get_or};
-ghost use Rattle.test_numbers.specs.Numbers.{isDigit, digitsAt, numberAt};
-ghost use Rattle.test_numbers.specs.Lines.{skipPast};
+ghost use Rattle.test_numbers.specs.Numbers.{is_digit, digits_at, number_at};
+ghost use Rattle.test_numbers.specs.Lines.{skip_past};
 
 /// What was read: the number, and the place after it.
 #[derive(Drop)]
@@ -21,7 +21,7 @@ struct Digits {
 /// With no digit there the number is 0, and the place is the one after the '-' where there is a '-', else `at`.
 /// Past the end of the text the number is 0, and the place stays `at`.
 pub fn number_at(s: &[u8], at: usize) -> Number
-    ensures { result ≡ numberAt s.now at }
+    ensures { result ≡ number_at s.now at }
 {
     if byte_at(s, at) == b'-' {
         let d = digits_at(s, at + 1);
@@ -40,7 +40,7 @@ pub fn number_at(s: &[u8], at: usize) -> Number
 /// The place just after the first byte equal to `b` at or after `at`; the text's length if there is none.
 /// Past the end of the text the place stays `at`.
 pub fn skip_past(s: &[u8], at: usize, b: u8) -> usize
-    ensures { result ≡ skipPast s.now at b }
+    ensures { result ≡ skip_past s.now at b }
 {
     let mut next = at;
     while next < s.len() {
@@ -55,7 +55,7 @@ pub fn skip_past(s: &[u8], at: usize, b: u8) -> usize
 
 /// The number that the digits from `at` on say, at most 18 of them; 0 where there is none.
 fn digits_at(s: &[u8], at: usize) -> Digits
-    ensures { result ≡ digitsAt s.now at }
+    ensures { result ≡ digits_at s.now at }
 {
     let mut value: u64 = 0;
     let mut next = at;
@@ -81,7 +81,7 @@ pub fn byte_at(s: &[u8], at: usize) -> u8
 
 /// Whether `b` is one of '0' to '9'.
 fn is_digit(b: u8) -> bool
-    ensures { result ≡ isDigit b }
+    ensures { result ≡ is_digit b }
 {
     if b < b'0' { false } else { b <= b'9' }
 }

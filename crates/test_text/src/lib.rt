@@ -1,7 +1,7 @@
 //! Questions and answers as text, for the programs that replay stored questions: sizes, points and lines are read out of a
 //! question, and lists, points and lines are written to standard output. No contract can say what is written.
 ghost use Rattle.std.specs.Prelude.{◌≡◌, ◌≤◌, length};
-ghost use Rattle.test_text.specs.Questions.{nextPlace, pointAt, line_at, offsetAt};
+ghost use Rattle.test_text.specs.Questions.{next_place, point_at, line_at, offset_at};
 
 use shapes::{Line, Offset, Point, Span};
 use writing::{say, say_next, say_number};
@@ -22,7 +22,7 @@ pub struct LineAt {
 
 /// The place after a byte, in a text of less than four million bytes; there the place stays.
 pub fn after(at: usize) -> usize
-    ensures { result ≡ nextPlace at }
+    ensures { result ≡ next_place at }
 {
     if at < 4000000 { at + 1 } else { at }
 }
@@ -43,7 +43,7 @@ pub fn size_up_to(most: usize, n: i64) -> usize
 
 /// The point whose coordinates stand at a place, a byte between them.
 pub fn point_at(s: &[u8], at: usize) -> PointAt
-    ensures { result ≡ pointAt s.now at }
+    ensures { result ≡ point_at s.now at }
 {
     let x = test_numbers::number_at(s, at);
     let y = test_numbers::number_at(s, after(x.next));
@@ -72,7 +72,7 @@ pub fn line_at(s: &[u8], at: usize) -> LineAt
 
 /// The offset that stands at a place: 1 is Left, 2 is Right, and all else is None.
 pub fn offset_at(s: &[u8], at: usize) -> Offset
-    ensures { result ≡ offsetAt s.now at }
+    ensures { result ≡ offset_at s.now at }
 {
     let digit = test_numbers::byte_at(s, at);
     if digit == b'1' {

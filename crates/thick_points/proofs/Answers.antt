@@ -15,14 +15,14 @@ use lib.Seq.{sets}
 use Rattle.whole.proofs.Tests.{ltb_iff, never, bad-first}
 use Rattle.shapes.specs.declared.Line.{Line}
 use Rattle.shapes.specs.declared.Offset.{Offset}
-use Rattle.shapes.specs.Refusals.{roomRefused}
-use Rattle.shapes.specs.Shape.{LineNear, isLineNear}
-use Rattle.shapes.specs.Strokes.{Thin, isThin, strokeRefusal}
+use Rattle.shapes.specs.Refusals.{room_refused}
+use Rattle.shapes.specs.Shape.{LineNear, is_line_near}
+use Rattle.shapes.specs.Strokes.{Thin, is_thin, stroke_refusal}
 use Rattle.shapes.proofs.Laws.{line-near-iff}
 use Rattle.shapes.proofs.Widths.{stroke-three, stroke-four, stroke-none}
-use Rattle.parallels.specs.Parallels.{parallelsOf}
+use Rattle.parallels.specs.Parallels.{parallels_of}
 use Rattle.thick_points.specs.declared.Listed.{Listed}
-use Rattle.thick_points.specs.Listing.{thickPointsOf, parallelNumbers, pointNumbers, listed, listRefusal, answered, written, parallelsRefusal, pointsRefusal}
+use Rattle.thick_points.specs.Listing.{thick_points_of, parallel_numbers, point_numbers, listed, list_refusal, answered, written, parallels_refusal, points_refusal}
 use Rattle.thick_points.proofs.Lists.{sets-listed, numbers-length, points-length}
 
 -- ---- two refusals, n first: a number of the first, and one of the second or 0
@@ -45,36 +45,36 @@ pub record Exactly (k : ℕ) (l : Line) (width : ℤ) (room need n : ℕ) : Type
   pub eight : (n ≡ 8) ↔ ((Thin width × LineNear k l) × (room < need))
   pub none : (n ≡ 0) ↔ ((Thin width × LineNear k l) × (need ≤ room))
 
-roomy : (room need : ℕ) (t : Bool) → ltb room need ≡ t → (cond t roomRefused 0 ≡ 0) ↔ (need ≤ room)
+roomy : (room need : ℕ) (t : Bool) → ltb room need ≡ t → (cond t room_refused 0 ≡ 0) ↔ (need ≤ room)
 roomy room need true e = (λ h. absurd (omega arith), λ h. absurd (omega (arith, ltb-true room need e)))
 roomy room need false e = (λ h. ltb-false room need e, λ h. refl)
 
-not_eight : (width : ℤ) (near : Bool) → strokeRefusal width near ≡ 8 → ⊥
-unfolding strokeRefusal
-not_eight width near = never (isThin width) (never near (λ e. omega arith) (λ e. omega arith)) (λ e. omega arith)
+not_eight : (width : ℤ) (near : Bool) → stroke_refusal width near ≡ 8 → ⊥
+unfolding stroke_refusal
+not_eight width near = never (is_thin width) (never near (λ e. omega arith) (λ e. omega arith)) (λ e. omega arith)
 
-pub list-exactly : (k : ℕ) (l : Line) (width : ℤ) (ns out : List ℤ) → Exactly k l width (length out) (length ns) (listRefusal k l width ns out)
-unfolding listRefusal
+pub list-exactly : (k : ℕ) (l : Line) (width : ℤ) (ns out : List ℤ) → Exactly k l width (length out) (length ns) (list_refusal k l width ns out)
+unfolding list_refusal
 list-exactly k l width ns out =
     let near = line-near-iff k l in
-    let s = strokeRefusal width (isLineNear k l) in
+    let s = stroke_refusal width (is_line_near k l) in
     let short = ltb (length out) (length ns) in
     record {
       three = first_by s (eqb s 0) refl (omega arith) (never short (λ e. omega arith) (λ e. omega arith)) (stroke-three width near);
       four = first_by s (eqb s 0) refl (omega arith) (never short (λ e. omega arith) (λ e. omega arith)) (stroke-four width near);
-      eight = later-by s (eqb s 0) refl (λ e. absurd (not_eight width (isLineNear k l) e)) (stroke-none width near) (bad-first short (ltb_iff (length out) (length ns)) (λ e. omega arith));
+      eight = later-by s (eqb s 0) refl (λ e. absurd (not_eight width (is_line_near k l) e)) (stroke-none width near) (bad-first short (ltb_iff (length out) (length ns)) (λ e. omega arith));
       none = later-by s (eqb s 0) refl (λ e. e) (stroke-none width near) (roomy (length out) (length ns) short refl);
     }
 
 -- 01's numbers of `list_parallels`
-pub parallels-exactly : (k : ℕ) (l : Line) (width : ℤ) (offset : Offset) (out : List ℤ) → Exactly k l width (length out) (4 * length (parallelsOf l width offset)) (parallelsRefusal k l width offset out)
-unfolding parallelsRefusal
-parallels-exactly k l width offset out = rw (← numbers-length (parallelsOf l width offset)) (list-exactly k l width (parallelNumbers (parallelsOf l width offset)) out)
+pub parallels-exactly : (k : ℕ) (l : Line) (width : ℤ) (offset : Offset) (out : List ℤ) → Exactly k l width (length out) (4 * length (parallels_of l width offset)) (parallels_refusal k l width offset out)
+unfolding parallels_refusal
+parallels-exactly k l width offset out = rw (← numbers-length (parallels_of l width offset)) (list-exactly k l width (parallel_numbers (parallels_of l width offset)) out)
 
 -- 01's numbers of `list_thick_points`
-pub points-exactly : (k : ℕ) (l : Line) (width : ℤ) (out : List ℤ) → Exactly k l width (length out) (2 * length (thickPointsOf l width)) (pointsRefusal k l width out)
-unfolding pointsRefusal
-points-exactly k l width out = rw (← points-length (thickPointsOf l width)) (list-exactly k l width (pointNumbers (thickPointsOf l width)) out)
+pub points-exactly : (k : ℕ) (l : Line) (width : ℤ) (out : List ℤ) → Exactly k l width (length out) (2 * length (thick_points_of l width)) (points_refusal k l width out)
+unfolding points_refusal
+points-exactly k l width out = rw (← points-length (thick_points_of l width)) (list-exactly k l width (point_numbers (thick_points_of l width)) out)
 
 -- ---- what stands in the answer and in the list
 
@@ -112,13 +112,13 @@ each n d count some e = rw (each-by (eqb n 0) d count some e)
 
 module _ (k : ℕ) (l : Line) (width : ℤ) (ns out : List ℤ) (count : ℕ) where
   abbrev number : ℕ
-  number = listRefusal k l width ns out
+  number = list_refusal k l width ns out
 
   abbrev pub Answers : Listed → List ℤ → Type 0
   Answers r after = (r ≡ answered number count) × (after ≡ written number ns out)
 
-  pub refused-first : {n : ℕ} → n ≡ strokeRefusal width (isLineNear k l) → (n ≡ 0 → ⊥) → Answers (answer n 0) out
-  unfolding listRefusal answered written
+  pub refused-first : {n : ℕ} → n ≡ stroke_refusal width (is_line_near k l) → (n ≡ 0 → ⊥) → Answers (answer n 0) out
+  unfolding list_refusal answered written
   refused-first {n} e some = rw (← e, ne_eqb n 0 some, ne_eqb n 0 some) (refl, refl)
 
   pub refused-short : Thin width → LineNear k l → length out < length ns → Answers (answer 8 0) out

@@ -1,12 +1,12 @@
 //! The parallels of a line, or its thick points, as numbers in a lent list.
 ghost use Rattle.std.specs.Prelude.{◌≡◌, cond, [], ◌∷◌, ◌+◌, ◌*◌, ◌^◌, ◌≤◌, pos, length};
 ghost use Rattle.std.proofs.lemmas.List.Edits.{sets};
-ghost use Rattle.shapes.specs.Limits.{lineLimit, thickLimit};
+ghost use Rattle.shapes.specs.Limits.{line_limit, thick_limit};
 ghost use Rattle.shapes.specs.Shape.{LineNear};
-ghost use Rattle.bresenham.specs.Points.{pointsFrom, majorLength};
+ghost use Rattle.bresenham.specs.Points.{points_from, major_length};
 ghost use Rattle.bresenham.specs.Walk.{Fair};
-ghost use Rattle.parallels.specs.Parallels.{deltaLimit, Sound, Begun, parallels};
-ghost use Rattle.thick_points.specs.Listing.{numbersOf, pointNumbers, lengthOn, size_of, toldOf, toldAll, toldNumbers, listRefusal, answered, written, Walk};
+ghost use Rattle.parallels.specs.Parallels.{delta_limit, Sound, Begun, parallels};
+ghost use Rattle.thick_points.specs.Listing.{numbers_of, point_numbers, length_on, size_of, told_of, told_all, told_numbers, list_refusal, answered, written, Walk};
 
 use crate::Listed;
 use bresenham::inner::{next as step, parameters};
@@ -46,7 +46,7 @@ pub fn flag(extra: bool) -> i64
 /// The four numbers of a parallel, from a place of a list on.
 pub fn put_parallel(out: &mut [i64], at: usize, p: Parallel)
     requires { at + 4 ≤ length out.old }
-    ensures { out.new ≡ sets out.old at (numbersOf p) }
+    ensures { out.new ≡ sets out.old at (numbers_of p) }
 {
     let start = p.start;
     let point = start.point;
@@ -56,10 +56,10 @@ pub fn put_parallel(out: &mut [i64], at: usize, p: Parallel)
 
 /// The numbers of `n` points of a walk, from a place of a list on.
 pub fn put_points(out: &mut [i64], at: usize, along: Parameters, start: Bresenham, n: usize)
-    requires fair { Fair deltaLimit along }
+    requires fair { Fair delta_limit along }
     requires walk { Walk n along start }
     requires n_in_bounds { at + 2 * n ≤ length out.old }
-    ensures { out.new ≡ sets out.old at (pointNumbers (pointsFrom n along start)) }
+    ensures { out.new ≡ sets out.old at (point_numbers (points_from n along start)) }
 {
     let mut from = start;
     let mut place = at;
@@ -76,8 +76,8 @@ pub fn put_points(out: &mut [i64], at: usize, along: Parameters, start: Bresenha
 
 /// How many points a line has.
 pub fn major_length(line: Line) -> usize
-    requires { LineNear lineLimit line }
-    ensures { result ≡ majorLength line }
+    requires { LineNear line_limit line }
+    ensures { result ≡ major_length line }
 {
     let p = parameters(line);
     (p.threshold + 1) as usize
@@ -86,7 +86,7 @@ pub fn major_length(line: Line) -> usize
 /// How many points a parallel has, by the line's number.
 pub fn length_on(n: usize, extra: bool) -> usize
     requires { 1 ≤ n }
-    ensures { result ≡ lengthOn n extra }
+    ensures { result ≡ length_on n extra }
 {
     if extra {
         return n - 1;
@@ -107,11 +107,11 @@ pub fn size(telling: Telling, n: usize, extra: bool) -> usize
 
 /// What is told of a parallel, from a place of a list on, where the line has `n` points.
 pub fn put(out: &mut [i64], at: usize, telling: Telling, n: usize, along: Parameters, p: Parallel)
-    requires fair { Fair deltaLimit along }
+    requires fair { Fair delta_limit along }
     requires le_n { 1 ≤ n }
-    requires walk { Walk (lengthOn n p.extra) along p.start }
+    requires walk { Walk (length_on n p.extra) along p.start }
     requires extra_in_bounds { at + size_of telling n p.extra ≤ length out.old }
-    ensures { out.new ≡ sets out.old at (toldOf telling n along p) }
+    ensures { out.new ≡ sets out.old at (told_of telling n along p) }
 {
     match telling {
         Telling::Start => put_parallel(&mut *out, at, p),
@@ -122,9 +122,9 @@ pub fn put(out: &mut [i64], at: usize, telling: Telling, n: usize, along: Parame
 /// How many numbers tell of the parallels that follow, where the line has `n` points.
 pub fn count(telling: Telling, n: usize, plan: Plan, state: Parallels) -> usize
     requires le_n { (1 ≤ n) × (n ≤ 2 ^ 16) }
-    requires sound { Sound thickLimit plan }
-    requires begun { Begun thickLimit plan state }
-    ensures { result ≡ length (toldAll telling n plan.parallel (parallels plan state)) }
+    requires sound { Sound thick_limit plan }
+    requires begun { Begun thick_limit plan state }
+    ensures { result ≡ length (told_all telling n plan.parallel (parallels plan state)) }
 {
     let mut at = state;
     let mut count: usize = 0;
@@ -142,10 +142,10 @@ pub fn count(telling: Telling, n: usize, plan: Plan, state: Parallels) -> usize
 /// What is told of the parallels that follow, from the front of a list on, where the line has `n` points.
 pub fn put_all(out: &mut [i64], telling: Telling, n: usize, plan: Plan, state: Parallels)
     requires le_n { (1 ≤ n) × (n ≤ 2 ^ 16) }
-    requires sound { Sound thickLimit plan }
-    requires begun { Begun thickLimit plan state }
-    requires state_in_bounds { length (toldAll telling n plan.parallel (parallels plan state)) ≤ length out.old }
-    ensures { out.new ≡ sets out.old 0 (toldAll telling n plan.parallel (parallels plan state)) }
+    requires sound { Sound thick_limit plan }
+    requires begun { Begun thick_limit plan state }
+    requires state_in_bounds { length (told_all telling n plan.parallel (parallels plan state)) ≤ length out.old }
+    ensures { out.new ≡ sets out.old 0 (told_all telling n plan.parallel (parallels plan state)) }
 {
     let mut from = state;
     let mut at: usize = 0;
@@ -171,9 +171,9 @@ pub fn list(
     width: i64,
     offset: Offset,
 ) -> Listed
-    requires { limit ≤ lineLimit }
-    ensures value { result ≡ answered (listRefusal limit line width (toldNumbers telling line width offset) out.old) (length (toldNumbers telling line width offset)) }
-    ensures out_after { out.new ≡ written (listRefusal limit line width (toldNumbers telling line width offset) out.old) (toldNumbers telling line width offset) out.old }
+    requires { limit ≤ line_limit }
+    ensures value { result ≡ answered (list_refusal limit line width (told_numbers telling line width offset) out.old) (length (told_numbers telling line width offset)) }
+    ensures out_after { out.new ≡ written (list_refusal limit line width (told_numbers telling line width offset) out.old) (told_numbers telling line width offset) out.old }
 {
     let number = stroke_refusal(width, is_line_near(line, limit));
     if number != 0 {

@@ -2,10 +2,10 @@
 pub mod inner; // inner.rt: what is told of each parallel, and the one listing of both entries
 
 ghost use Rattle.std.specs.Prelude.{◌≡◌, length};
-ghost use Rattle.shapes.specs.Limits.{pointLimit};
-ghost use Rattle.parallels.specs.Parallels.{parallelsOf};
-ghost use Rattle.thick_points.specs.Listing.{thickPointsOf, parallelNumbers, pointNumbers};
-ghost use Rattle.thick_points.specs.Listing.{parallelsRefusal, pointsRefusal, answered, written};
+ghost use Rattle.shapes.specs.Limits.{point_limit};
+ghost use Rattle.parallels.specs.Parallels.{parallels_of};
+ghost use Rattle.thick_points.specs.Listing.{thick_points_of, parallel_numbers, point_numbers};
+ghost use Rattle.thick_points.specs.Listing.{parallels_refusal, points_refusal, answered, written};
 
 use inner::Telling;
 use shapes::limits::POINT;
@@ -22,8 +22,8 @@ pub struct Listed {
 /// with, and 1 where it is Extra, else 0. Refuses with 3 a width outside 0 to 64, then with 4 a coordinate outside 511, then
 /// with 8 a list that has fewer than four numbers for each parallel; a refusal writes nothing.
 pub fn list_parallels(line: Line, width: i64, offset: Offset, out: &mut [i64]) -> Listed
-    ensures value { result ≡ answered (parallelsRefusal pointLimit line width offset out.old) (length (parallelsOf line width offset)) }
-    ensures out_after { out.new ≡ written (parallelsRefusal pointLimit line width offset out.old) (parallelNumbers (parallelsOf line width offset)) out.old }
+    ensures value { result ≡ answered (parallels_refusal point_limit line width offset out.old) (length (parallels_of line width offset)) }
+    ensures out_after { out.new ≡ written (parallels_refusal point_limit line width offset out.old) (parallel_numbers (parallels_of line width offset)) out.old }
 {
     let listed = inner::list(&mut *out, Telling::Start, POINT, line, width, offset);
     Listed {
@@ -36,8 +36,8 @@ pub fn list_parallels(line: Line, width: i64, offset: Offset, out: &mut [i64]) -
 /// width outside 0 to 64, then with 4 a coordinate outside 511, then with 8 a list that has fewer than two numbers for each
 /// point; a refusal writes nothing.
 pub fn list_thick_points(line: Line, width: i64, out: &mut [i64]) -> Listed
-    ensures value { result ≡ answered (pointsRefusal pointLimit line width out.old) (length (thickPointsOf line width)) }
-    ensures out_after { out.new ≡ written (pointsRefusal pointLimit line width out.old) (pointNumbers (thickPointsOf line width)) out.old }
+    ensures value { result ≡ answered (points_refusal point_limit line width out.old) (length (thick_points_of line width)) }
+    ensures out_after { out.new ≡ written (points_refusal point_limit line width out.old) (point_numbers (thick_points_of line width)) out.old }
 {
     let listed = inner::list(&mut *out, Telling::Points, POINT, line, width, Offset::None);
     Listed {

@@ -18,16 +18,16 @@ use Rattle.shapes.specs.declared.Line.{Line}
 use Rattle.shapes.specs.Shape.{point_of}
 use Rattle.shapes.specs.Spans.{is_empty}
 use Rattle.bresenham.specs.Paces.{Between}
-use Rattle.bresenham.specs.Points.{linePoints}
+use Rattle.bresenham.specs.Points.{line_points}
 use Rattle.bresenham.proofs.Lines.{line-rows}
-use Rattle.scanline.specs.Rows.{firstOn}
+use Rattle.scanline.specs.Rows.{first_on}
 use Rattle.scanline.proofs.Rows.{first-at, on-column}
-use Rattle.line_join.specs.Caps.{startCapsOf, endCapsOf}
+use Rattle.line_join.specs.Caps.{start_caps_of, end_caps_of}
 use Rattle.thick_segment.specs.declared.Segment.{Segment}
 use Rattle.thick_segment.specs.declared.Rows.{Rows}
-use Rattle.thick_segment.specs.Segments.{SegmentNear, isSkeleton, capLines, edgesOf, least, most, boxOf, union, boundingBox, drawn, spanOn}
-use Rattle.thick_segment.specs.Rows.{lineRows, boxRows, around, withLines, drawnRows}
-use Rattle.thick_segment.specs.Words.{points_of, drawnPoints, HasRow, Holds, Lit, LitEnds, EndsNear}
+use Rattle.thick_segment.specs.Segments.{SegmentNear, is_skeleton, cap_lines, edges_of, least, most, box_of, union, bounding_box, drawn, span_on}
+use Rattle.thick_segment.specs.Rows.{line_rows, box_rows, around, with_lines, drawn_rows}
+use Rattle.thick_segment.specs.Words.{points_of, drawn_points, HasRow, Holds, Lit, LitEnds, EndsNear}
 use Rattle.thick_segment.proofs.Drawn.{JoinHas, Ends, no_lines, and-line, On, drawn-near, drawn-on}
 use Rattle.thick_segment.proofs.Laws.{span-empty}
 use Rattle.thick_segment.proofs.Scanned.{Each, none, more}
@@ -55,69 +55,69 @@ held {a} {b} h = rw (lesser-first h.from, greater-first h.to)
 
 -- ---- with those of lines
 
-with-holds : (r : Rows) (ls : List Line) → Holds (withLines r ls) r
-unfolding withLines
+with-holds : (r : Rows) (ls : List Line) → Holds (with_lines r ls) r
+unfolding with_lines
 with-holds r [] = record { from = omega linear; to = omega linear }
-with-holds r (l ∷ ls) = holds_on (with-holds (around r (lineRows l)) ls) (around-first r (lineRows l))
+with-holds r (l ∷ ls) = holds_on (with-holds (around r (line_rows l)) ls) (around-first r (line_rows l))
 
-with_append : (r : Rows) (ls ms : List Line) → withLines r (ls ++ ms) ≡ withLines (withLines r ls) ms
-unfolding withLines
+with_append : (r : Rows) (ls ms : List Line) → with_lines r (ls ++ ms) ≡ with_lines (with_lines r ls) ms
+unfolding with_lines
 with_append r [] ms = refl
-with_append r (l ∷ ls) ms = with_append (around r (lineRows l)) ls ms
+with_append r (l ∷ ls) ms = with_append (around r (line_rows l)) ls ms
 
 -- of a segment: those of a skeleton's right edge; else those of both edges and of the lines that close its ends
-pub skeleton-rows : (s : Segment) → isSkeleton s ≡ true → drawnRows s ≡ lineRows (edgesOf s).right
-unfolding drawnRows drawn withLines
+pub skeleton-rows : (s : Segment) → is_skeleton s ≡ true → drawn_rows s ≡ line_rows (edges_of s).right
+unfolding drawn_rows drawn with_lines
 skeleton-rows s e = rw e (held (record { from = omega linear; to = omega linear }))
 
-pub perimeter-rows : (s : Segment) → isSkeleton s ≡ false
-    → drawnRows s ≡ around (withLines (withLines (lineRows (edgesOf s).right) (capLines (startCapsOf s.start))) (capLines (endCapsOf s.end))) (lineRows (edgesOf s).left)
-unfolding drawnRows drawn withLines
+pub perimeter-rows : (s : Segment) → is_skeleton s ≡ false
+    → drawn_rows s ≡ around (with_lines (with_lines (line_rows (edges_of s).right) (cap_lines (start_caps_of s.start))) (cap_lines (end_caps_of s.end))) (line_rows (edges_of s).left)
+unfolding drawn_rows drawn with_lines
 perimeter-rows s e =
-    let right = lineRows (edgesOf s).right in
-    let start = capLines (startCapsOf s.start) in
-    let end = capLines (endCapsOf s.end) in
-    let edges = (edgesOf s).right ∷ (edgesOf s).left ∷ [] in
+    let right = line_rows (edges_of s).right in
+    let start = cap_lines (start_caps_of s.start) in
+    let end = cap_lines (end_caps_of s.end) in
+    let edges = (edges_of s).right ∷ (edges_of s).left ∷ [] in
     rw e
-    (with_append right start (end ++ edges) ∙ with_append (withLines right start) end edges
-    ∙ ap (λ r. around r (lineRows (edgesOf s).left)) (held (holds_on (with-holds (withLines right start) end) (with-holds right start))))
+    (with_append right start (end ++ edges) ∙ with_append (with_lines right start) end edges
+    ∙ ap (λ r. around r (line_rows (edges_of s).left)) (held (holds_on (with-holds (with_lines right start) end) (with-holds right start))))
 
 -- rows that hold two hold those around them
 around-among : {r a b : Rows} → Holds r a → Holds r b → Holds r (around a b)
 unfolding around
 around-among p q = record { from = le-lesser _ _ _ p.from q.from; to = greater-le _ _ _ p.to q.to }
 
-line-among : {r : Rows} (l : Line) → On r l.start → On r l.end → Holds r (lineRows l)
+line-among : {r : Rows} (l : Line) → On r l.start → On r l.end → Holds r (line_rows l)
 line-among l p q = record { from = le-lesser _ _ _ p.from q.from; to = greater-le _ _ _ p.to q.to }
 
-with-among : {r : Rows} (a : Rows) {ls : List Line} → Holds r a → Ends (On r) ls → Holds r (withLines a ls)
-unfolding withLines
+with-among : {r : Rows} (a : Rows) {ls : List Line} → Holds r a → Ends (On r) ls → Holds r (with_lines a ls)
+unfolding with_lines
 with-among a h no_lines = h
-with-among a {ls = l ∷ ls} h (and-line p q e) = with-among (around a (lineRows l)) (around-among h (line-among l p q)) e
+with-among a {ls = l ∷ ls} h (and-line p q e) = with-among (around a (line_rows l)) (around-among h (line-among l p q)) e
 
 -- so rows that have all corners of a segment's joins hold its rows
-pub rows-among : {r : Rows} (s : Segment) → JoinHas (On r) s.start → JoinHas (On r) s.end → Holds r (drawnRows s)
-unfolding drawnRows edgesOf
-rows-among s a b = with-among (lineRows (edgesOf s).right) (line-among (edgesOf s).right a.starting.right b.ending.right) (drawn-on s a b)
+pub rows-among : {r : Rows} (s : Segment) → JoinHas (On r) s.start → JoinHas (On r) s.end → Holds r (drawn_rows s)
+unfolding drawn_rows edges_of
+rows-among s a b = with-among (line_rows (edges_of s).right) (line-among (edges_of s).right a.starting.right b.ending.right) (drawn-on s a b)
 
 -- the rows of its box are among them, unless it is a skeleton
-pub box-among : (s : Segment) → isSkeleton s ≡ false → Holds (drawnRows s) (boxRows (boundingBox s))
-unfolding boundingBox union boxOf least most around
+pub box-among : (s : Segment) → is_skeleton s ≡ false → Holds (drawn_rows s) (box_rows (bounding_box s))
+unfolding bounding_box union box_of least most around
 box-among s e =
-    let right = lineRows (edgesOf s).right in
-    let start = capLines (startCapsOf s.start) in
-    let end = capLines (endCapsOf s.end) in
-    let capped = withLines (withLines right start) end in
+    let right = line_rows (edges_of s).right in
+    let start = cap_lines (start_caps_of s.start) in
+    let end = cap_lines (end_caps_of s.end) in
+    let capped = with_lines (with_lines right start) end in
     rw (e, perimeter-rows s e)
-    (around-among (holds_on (around-first capped (lineRows (edgesOf s).left)) (holds_on (with-holds (withLines right start) end) (with-holds right start))) (around-second capped (lineRows (edgesOf s).left)))
+    (around-among (holds_on (around-first capped (line_rows (edges_of s).left)) (holds_on (with-holds (with_lines right start) end) (with-holds right start))) (around-second capped (line_rows (edges_of s).left)))
 
 -- every point of the lines is on one of the rows
-with_row : (r : Rows) (ls : List Line) {q : Point} → Memᴰ q (points_of ls) → HasRow (withLines r ls) q.y
-unfolding withLines points_of
+with_row : (r : Rows) (ls : List Line) {q : Point} → Memᴰ q (points_of ls) → HasRow (with_lines r ls) q.y
+unfolding with_lines points_of
 with_row r (l ∷ ls) m =
-    let wide = around r (lineRows l) in
-    ⊎_elim (λ h. let b = line-rows l h in holds_row (holds_on (with-holds wide ls) (around-second r (lineRows l))) (record { from = b.low; to = b.high })) (with_row wide ls)
-    (Memᴰ.append_cases (linePoints l) m)
+    let wide = around r (line_rows l) in
+    ⊎_elim (λ h. let b = line-rows l h in holds_row (holds_on (with-holds wide ls) (around-second r (line_rows l))) (record { from = b.low; to = b.high })) (with_row wide ls)
+    (Memᴰ.append_cases (line_points l) m)
 
 -- ---- and the first and the last are rows of points
 
@@ -125,15 +125,15 @@ lit-more : {ps qs : List Point} {y : ℤ} → ((q : Point) → Memᴰ q ps → M
 lit-more all lit = record { point = lit.point; among = all lit.point lit.among; on_row = lit.on_row }
 
 -- a line has a point on each row between its ends
-row-lit : (l : Line) (y : ℤ) → Between l.start.y l.end.y y → Lit (linePoints l) y
-row-lit l y b = record { point = point_of (firstOn l y) y; among = on-column l y b (first-at l y b); on_row = refl }
+row-lit : (l : Line) (y : ℤ) → Between l.start.y l.end.y y → Lit (line_points l) y
+row-lit l y b = record { point = point_of (first_on l y) y; among = on-column l y b (first-at l y b); on_row = refl }
 
-line-lit : (l : Line) → LitEnds (linePoints l) (lineRows l)
+line-lit : (l : Line) → LitEnds (line_points l) (line_rows l)
 line-lit l =
     let a = l.start.y in
     let b = l.end.y in
     let order : lesser a b ≤ℤ greater a b = omega (linear, (lesser-le a b).0, (le-greater a b).0) in
-    record { first-lit = row-lit l (lesser a b) (record { low = omega linear; high = order }); last-lit = row-lit l (greater a b) (record { low = order; high = omega linear }) }
+    record { first_lit = row-lit l (lesser a b) (record { low = omega linear; high = order }); last_lit = row-lit l (greater a b) (record { low = order; high = omega linear }) }
 
 -- one of two rows
 either-lit : {ps : List Point} {a b y : ℤ} → (y ≡ a) ⊎ (y ≡ b) → Lit ps a → Lit ps b → Lit ps y
@@ -143,83 +143,83 @@ around-lit : {ps : List Point} {a b : Rows} → LitEnds ps a → LitEnds ps b �
 unfolding around
 around-lit {a = a} {b = b} p q =
     record {
-      first-lit = either-lit (lesser-one a.first b.first) p.first-lit q.first-lit;
-      last-lit = either-lit (greater-one a.last b.last) p.last-lit q.last-lit;
+      first_lit = either-lit (lesser-one a.first b.first) p.first_lit q.first_lit;
+      last_lit = either-lit (greater-one a.last b.last) p.last_lit q.last_lit;
     }
 
-with-lit : {ps : List Point} (r : Rows) (ls : List Line) → ((q : Point) → Memᴰ q (points_of ls) → Memᴰ q ps) → LitEnds ps r → LitEnds ps (withLines r ls)
-unfolding withLines points_of
+with-lit : {ps : List Point} (r : Rows) (ls : List Line) → ((q : Point) → Memᴰ q (points_of ls) → Memᴰ q ps) → LitEnds ps r → LitEnds ps (with_lines r ls)
+unfolding with_lines points_of
 with-lit r [] all lit = lit
 with-lit {ps} r (l ∷ ls) all lit =
     let e = line-lit l in
-    let here : (q : Point) → Memᴰ q (linePoints l) → Memᴰ q ps = λ q m. all q (Memᴰ.append_left (points_of ls) m) in
-    with-lit (around r (lineRows l)) ls (λ q m. all q (Memᴰ.append_right (linePoints l) m))
-    (around-lit lit (record { first-lit = lit-more here e.first-lit; last-lit = lit-more here e.last-lit }))
+    let here : (q : Point) → Memᴰ q (line_points l) → Memᴰ q ps = λ q m. all q (Memᴰ.append_left (points_of ls) m) in
+    with-lit (around r (line_rows l)) ls (λ q m. all q (Memᴰ.append_right (line_points l) m))
+    (around-lit lit (record { first_lit = lit-more here e.first_lit; last_lit = lit-more here e.last_lit }))
 
 -- ---- of a segment
 
 points-behind : (ls ms : List Line) {q : Point} → Memᴰ q (points_of ms) → Memᴰ q (points_of (ls ++ ms))
 unfolding points_of
 points-behind [] ms m = m
-points-behind (l ∷ ls) ms m = Memᴰ.append_right (linePoints l) (points-behind ls ms m)
+points-behind (l ∷ ls) ms m = Memᴰ.append_right (line_points l) (points-behind ls ms m)
 
 -- the right edge is drawn
-right-drawn : (s : Segment) (t : Bool) → isSkeleton s ≡ t → (q : Point) → Memᴰ q (linePoints (edgesOf s).right) → Memᴰ q (drawnPoints s)
-unfolding drawnPoints drawn points_of
+right-drawn : (s : Segment) (t : Bool) → is_skeleton s ≡ t → (q : Point) → Memᴰ q (line_points (edges_of s).right) → Memᴰ q (drawn_points s)
+unfolding drawn_points drawn points_of
 right-drawn s true e q m = rw e (Memᴰ.append_left [] m)
 right-drawn s false e q m =
-    let edges = (edgesOf s).right ∷ (edgesOf s).left ∷ [] in
-    let start = capLines (startCapsOf s.start) in
-    let end = capLines (endCapsOf s.end) in
+    let edges = (edges_of s).right ∷ (edges_of s).left ∷ [] in
+    let start = cap_lines (start_caps_of s.start) in
+    let end = cap_lines (end_caps_of s.end) in
     rw e (points-behind start (end ++ edges) (points-behind end edges (Memᴰ.append_left _ m)))
 
 module _ (s : Segment) where
   -- every drawn point is on one of its rows
-  pub point-row : {q : Point} → Memᴰ q (drawnPoints s) → HasRow (drawnRows s) q.y
-  unfolding drawnRows drawnPoints
-  point-row m = with_row (lineRows (edgesOf s).right) (drawn s) m
+  pub point-row : {q : Point} → Memᴰ q (drawn_points s) → HasRow (drawn_rows s) q.y
+  unfolding drawn_rows drawn_points
+  point-row m = with_row (line_rows (edges_of s).right) (drawn s) m
 
   -- and its first and its last row each have one
-  pub ends-lit : LitEnds (drawnPoints s) (drawnRows s)
-  unfolding drawnRows drawnPoints
+  pub ends-lit : LitEnds (drawn_points s) (drawn_rows s)
+  unfolding drawn_rows drawn_points
   ends-lit =
-      let e = line-lit (edgesOf s).right in
-      let here = right-drawn s (isSkeleton s) refl in
-      with-lit (lineRows (edgesOf s).right) (drawn s) (λ q m. m) (record { first-lit = lit-more here e.first-lit; last-lit = lit-more here e.last-lit })
+      let e = line-lit (edges_of s).right in
+      let here = right-drawn s (is_skeleton s) refl in
+      with-lit (line_rows (edges_of s).right) (drawn s) (λ q m. m) (record { first_lit = lit-more here e.first_lit; last_lit = lit-more here e.last_lit })
 
   -- so no fewer rows have all drawn points
-  pub rows-least : (r : Rows) → ((q : Point) → Memᴰ q (drawnPoints s) → HasRow r q.y) → Holds r (drawnRows s)
+  pub rows-least : (r : Rows) → ((q : Point) → Memᴰ q (drawn_points s) → HasRow r q.y) → Holds r (drawn_rows s)
   rows-least r all =
-      let first = ends-lit.first-lit in
-      let last = ends-lit.last-lit in
+      let first = ends-lit.first_lit in
+      let last = ends-lit.last_lit in
       record { from = rw first.on_row at (all first.point first.among).from; to = rw last.on_row at (all last.point last.among).to }
 
   -- a row outside has no column, and one with a drawn point has some
-  pub row-dark : (row : ℤ) → (HasRow (drawnRows s) row → ⊥) → is_empty (spanOn s row) ≡ true
+  pub row-dark : (row : ℤ) → (HasRow (drawn_rows s) row → ⊥) → is_empty (span_on s row) ≡ true
   row-dark row off = (span-empty s row).1 (λ q m on. off (rw on at (point-row m)))
 
-  pub row-bright : (row : ℤ) → Lit (drawnPoints s) row → is_empty (spanOn s row) ≡ false
-  row-bright row lit = else-false (is_empty (spanOn s row)) (λ none. (span-empty s row).0 none lit.point lit.among lit.on_row)
+  pub row-bright : (row : ℤ) → Lit (drawn_points s) row → is_empty (span_on s row) ≡ false
+  row-bright row lit = else-false (is_empty (span_on s row)) (λ none. (span-empty s row).0 none lit.point lit.among lit.on_row)
 
-  pub rows-ordered : (drawnRows s).first ≤ℤ (drawnRows s).last
-  rows-ordered = let h = point-row ends-lit.first-lit.among in omega (linear, h.from, h.to)
+  pub rows-ordered : (drawn_rows s).first ≤ℤ (drawn_rows s).last
+  rows-ordered = let h = point-row ends-lit.first_lit.among in omega (linear, h.from, h.to)
 
 -- ---- as near as the joins' corners
 
-with-near : {k : ℕ} (r : Rows) (ls : List Line) → EndsNear k r → Each k ls → EndsNear k (withLines r ls)
-unfolding withLines around
+with-near : {k : ℕ} (r : Rows) (ls : List Line) → EndsNear k r → Each k ls → EndsNear k (with_lines r ls)
+unfolding with_lines around
 with-near r [] near none = near
 with-near r (l ∷ ls) near (more line each) =
-    with-near (around r (lineRows l)) ls
+    with-near (around r (line_rows l)) ls
     (record {
-      first-near = within-lesser near.first-near (within-lesser line.start-near.y-near line.end-near.y-near);
-      last-near = within-greater near.last-near (within-greater line.start-near.y-near line.end-near.y-near);
+      first_near = within-lesser near.first_near (within-lesser line.start_near.y_near line.end_near.y_near);
+      last_near = within-greater near.last_near (within-greater line.start_near.y_near line.end_near.y_near);
     })
     each
 
-pub drawn-rows-near : {k : ℕ} (s : Segment) → SegmentNear k s → EndsNear k (drawnRows s)
-unfolding drawnRows edgesOf
+pub drawn-rows-near : {k : ℕ} (s : Segment) → SegmentNear k s → EndsNear k (drawn_rows s)
+unfolding drawn_rows edges_of
 drawn-rows-near s h =
-    let a = h.start-near.starting-near.right_near.y-near in
-    let b = h.end-near.ending-near.right_near.y-near in
-    with-near (lineRows (edgesOf s).right) (drawn s) (record { first-near = within-lesser a b; last-near = within-greater a b }) (drawn-near s h)
+    let a = h.start_near.starting_near.right_near.y_near in
+    let b = h.end_near.ending_near.right_near.y_near in
+    with-near (line_rows (edges_of s).right) (drawn s) (record { first_near = within-lesser a b; last_near = within-greater a b }) (drawn-near s h)

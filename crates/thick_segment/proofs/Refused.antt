@@ -6,29 +6,29 @@ use Prim.Native.Nat.{ℕ, ◌≤◌}
 use native.Mathlib.Omega.{arith}
 use lib.Dec.{lit≤}
 use lib.IntN.{ℤ}
-use Rattle.whole.specs.Number.{Within, isWithin}
+use Rattle.whole.specs.Number.{Within, is_within}
 use Rattle.whole.proofs.Tests.{and-iff, never, good-first, good-later}
-use Rattle.shapes.specs.Limits.{cornerLimit, lineLimit}
-use Rattle.line_join.specs.Caps.{isJoinNear}
+use Rattle.shapes.specs.Limits.{corner_limit, line_limit}
+use Rattle.line_join.specs.Caps.{is_join_near}
 use Rattle.line_join.proofs.Room.{join-near-more, join-near-iff}
 use Rattle.whole.proofs.Laws.{within-iff}
 use Rattle.thick_segment.specs.declared.Segment.{Segment}
-use Rattle.thick_segment.specs.Segments.{SegmentNear, isSegmentNear}
-use Rattle.thick_segment.specs.Answers.{segmentRefusal}
+use Rattle.thick_segment.specs.Segments.{SegmentNear, is_segment_near}
+use Rattle.thick_segment.specs.Answers.{segment_refusal}
 
 -- the entries' test says that all corners of both joins are within the limit
-pub segment-near-iff : (k : ℕ) (s : Segment) → (isSegmentNear k s ≡ true) ↔ SegmentNear k s
-unfolding isSegmentNear
+pub segment-near-iff : (k : ℕ) (s : Segment) → (is_segment_near k s ≡ true) ↔ SegmentNear k s
+unfolding is_segment_near
 segment-near-iff k s =
-    let both = and-iff (isJoinNear k s.start) (isJoinNear k s.end) (join-near-iff k s.start) (join-near-iff k s.end) in
-    (λ e. record { start-near = (both.0 e).0; end-near = (both.0 e).1 }, λ h. both.1 (h.start-near, h.end-near))
+    let both = and-iff (is_join_near k s.start) (is_join_near k s.end) (join-near-iff k s.start) (join-near-iff k s.end) in
+    (λ e. record { start_near = (both.0 e).0; end_near = (both.0 e).1 }, λ h. both.1 (h.start_near, h.end_near))
 
 pub segment-more : {j k : ℕ} {s : Segment} → SegmentNear j s → j ≤ k → SegmentNear k s
-segment-more h le = record { start-near = join-near-more h.start-near le; end-near = join-near-more h.end-near le }
+segment-more h le = record { start_near = join-near-more h.start_near le; end_near = join-near-more h.end_near le }
 
 -- what passes the entries' test is small enough
-pub segment-room : (s : Segment) → isSegmentNear cornerLimit s ≡ true → SegmentNear lineLimit s
-segment-room s e = segment-more ((segment-near-iff cornerLimit s).0 e) (lit≤ tt)
+pub segment-room : (s : Segment) → is_segment_near corner_limit s ≡ true → SegmentNear line_limit s
+segment-room s e = segment-more ((segment-near-iff corner_limit s).0 e) (lit≤ tt)
 
 -- ---- the span's two refusals, in 01's order
 
@@ -37,14 +37,14 @@ none-by true e = (λ h. e.0 refl, λ p. refl)
 none-by false e = (λ h. absurd (omega arith), λ p. cc (e.1 p))
 
 module _ (k : ℕ) (s : Segment) (row : ℤ) where
-  pub segment-five : (segmentRefusal k s row ≡ 5) ↔ (SegmentNear k s → ⊥)
-  unfolding segmentRefusal
-  segment-five = good-first (isSegmentNear k s) (segment-near-iff k s) (never (isWithin k row) (λ e. omega arith) (λ e. omega arith))
+  pub segment-five : (segment_refusal k s row ≡ 5) ↔ (SegmentNear k s → ⊥)
+  unfolding segment_refusal
+  segment-five = good-first (is_segment_near k s) (segment-near-iff k s) (never (is_within k row) (λ e. omega arith) (λ e. omega arith))
 
-  pub segment-six : (segmentRefusal k s row ≡ 6) ↔ (SegmentNear k s × (Within row k → ⊥))
-  unfolding segmentRefusal
-  segment-six = good-later (isSegmentNear k s) (segment-near-iff k s) (λ e. omega arith) (good-first (isWithin k row) (within-iff k row) (λ e. omega arith))
+  pub segment-six : (segment_refusal k s row ≡ 6) ↔ (SegmentNear k s × (Within row k → ⊥))
+  unfolding segment_refusal
+  segment-six = good-later (is_segment_near k s) (segment-near-iff k s) (λ e. omega arith) (good-first (is_within k row) (within-iff k row) (λ e. omega arith))
 
-  pub segment-none : (segmentRefusal k s row ≡ 0) ↔ (SegmentNear k s × Within row k)
-  unfolding segmentRefusal
-  segment-none = good-later (isSegmentNear k s) (segment-near-iff k s) (λ e. omega arith) (none-by (isWithin k row) (within-iff k row))
+  pub segment-none : (segment_refusal k s row ≡ 0) ↔ (SegmentNear k s × Within row k)
+  unfolding segment_refusal
+  segment-none = good-later (is_segment_near k s) (segment-near-iff k s) (λ e. omega arith) (none-by (is_within k row) (within-iff k row))

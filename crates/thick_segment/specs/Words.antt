@@ -5,7 +5,7 @@ use Rattle.whole.specs.Number.{Within}
 use Rattle.shapes.specs.declared.Point.{Point}
 use Rattle.shapes.specs.declared.Line.{Line}
 use Rattle.shapes.specs.Shape.{Near}
-use Rattle.bresenham.specs.Points.{linePoints}
+use Rattle.bresenham.specs.Points.{line_points}
 use Rattle.line_join.specs.declared.Join.{Join}
 use Rattle.thick_segment.specs.declared.Segment.{Segment}
 use Rattle.thick_segment.specs.declared.Rectangle.{Rectangle}
@@ -13,16 +13,16 @@ use Rattle.thick_segment.specs.declared.Rows.{Rows}
 use Rattle.thick_segment.specs.Segments.{drawn}
 
 -- the joins in the order of a walk
-abbrev pub joinsIn : Segment → ℕ → Join
-joinsIn s zero = s.start
-joinsIn s (suc i) = s.end
+abbrev pub joins_in : Segment → ℕ → Join
+joins_in s zero = s.start
+joins_in s (suc i) = s.end
 
 unfoldable pub points_of : List Line → List Point
 points_of [] = []
-points_of (l ∷ ls) = linePoints l ++ points_of ls
+points_of (l ∷ ls) = line_points l ++ points_of ls
 
-unfoldable pub drawnPoints : Segment → List Point
-drawnPoints s = points_of (drawn s)
+unfoldable pub drawn_points : Segment → List Point
+drawn_points s = points_of (drawn s)
 
 -- the row y is one of the rows: their first and their last are too
 pub record HasRow (r : Rows) (y : ℤ) : Type 0 where
@@ -42,13 +42,13 @@ pub record Lit (ps : List Point) (y : ℤ) : Type 0 where
 
 -- both the first and the last row have one
 pub record LitEnds (ps : List Point) (r : Rows) : Type 0 where
-  pub first-lit : Lit ps r.first
-  pub last-lit : Lit ps r.last
+  pub first_lit : Lit ps r.first
+  pub last_lit : Lit ps r.last
 
 pub record RectangleNear (k : ℕ) (b : Rectangle) : Type 0 where
-  pub first-near : Near k b.first
-  pub last-near : Near k b.last
+  pub first_near : Near k b.first
+  pub last_near : Near k b.last
 
 pub record EndsNear (k : ℕ) (r : Rows) : Type 0 where
-  pub first-near : Within r.first k
-  pub last-near : Within r.last k
+  pub first_near : Within r.first k
+  pub last_near : Within r.last k

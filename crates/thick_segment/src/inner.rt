@@ -1,11 +1,11 @@
 //! Segments, for the crates above: no test of the input, but bounds that the caller shows.
 ghost use Rattle.std.specs.Prelude.{◌≡◌, ◌≤◌, ◌<◌, length, take, set};
-ghost use Rattle.shapes.specs.Limits.{lineLimit};
+ghost use Rattle.shapes.specs.Limits.{line_limit};
 ghost use Rattle.shapes.specs.Shape.{line_of};
-ghost use Rattle.thick_segment.specs.Segments.{SegmentNear, isSegmentNear, farBend, upperOf, lowerOf, top_of, bottomOf, isSkeleton, edgesOf};
-ghost use Rattle.thick_segment.specs.Segments.{least as leastOf, most as most_of, boxOf, union as unionOf, boundingBox};
-ghost use Rattle.thick_segment.specs.Segments.{coordinates as coordinatesOf, capLines, placed, count_of, line_at, AllNear, metRows, perimeterOf, spanOn};
-ghost use Rattle.thick_segment.specs.Rows.{lineRows, around as around_of, withLines, drawnRows};
+ghost use Rattle.thick_segment.specs.Segments.{SegmentNear, is_segment_near, far_bend, upper_of, lower_of, top_of, bottom_of, is_skeleton, edges_of};
+ghost use Rattle.thick_segment.specs.Segments.{least as least_of, most as most_of, box_of, union as union_of, bounding_box};
+ghost use Rattle.thick_segment.specs.Segments.{coordinates as coordinates_of, cap_lines, placed, count_of, line_at, AllNear, met_rows, perimeter_of, span_on};
+ghost use Rattle.thick_segment.specs.Rows.{line_rows, around as around_of, with_lines, drawn_rows};
 
 use crate::{EdgePair, Rectangle, Rows, Segment};
 use line_join::inner::{end_caps, is_join_near, start_caps};
@@ -17,7 +17,7 @@ use whole::inner::{both, greater, lesser};
 
 /// Whether all corners of both joins are within `limit`: if not, the segment is refused with 5.
 pub fn is_segment_near(segment: Segment, limit: u32) -> bool
-    ensures { result ≡ isSegmentNear limit segment }
+    ensures { result ≡ is_segment_near limit segment }
 {
     both(
         is_join_near(segment.start, limit),
@@ -28,7 +28,7 @@ pub fn is_segment_near(segment: Segment, limit: u32) -> bool
 /// The position of the first join of a segment, the start join before the end join, that has a corner beyond `limit`; 0 where
 /// neither has.
 pub fn far_bend(segment: Segment, limit: u32) -> usize
-    ensures { result ≡ farBend limit segment }
+    ensures { result ≡ far_bend limit segment }
 {
     let start = segment.start;
     let end = segment.end;
@@ -43,7 +43,7 @@ pub fn far_bend(segment: Segment, limit: u32) -> usize
 
 /// Whether a segment is one pixel wide: the left and the right corner at which the line before its start join ends are one.
 pub fn is_skeleton(segment: Segment) -> bool
-    ensures { result ≡ isSkeleton segment }
+    ensures { result ≡ is_skeleton segment }
 {
     let join = segment.start;
     let corners = join.ending;
@@ -52,7 +52,7 @@ pub fn is_skeleton(segment: Segment) -> bool
 
 /// The edges of a segment: the right one along it, the left one back.
 pub fn edges(segment: Segment) -> EdgePair
-    ensures { result ≡ edgesOf segment }
+    ensures { result ≡ edges_of segment }
 {
     let first = segment.start;
     let last = segment.end;
@@ -72,7 +72,7 @@ fn line_of(start: Point, end: Point) -> Line
 
 /// The point of the lesser of each coordinate.
 fn least(a: Point, b: Point) -> Point
-    ensures { result ≡ leastOf a b }
+    ensures { result ≡ least_of a b }
 {
     let ax = a.x;
     let ay = a.y;
@@ -100,7 +100,7 @@ fn most(a: Point, b: Point) -> Point
 
 /// The box around a line.
 fn box_of(line: Line) -> Rectangle
-    ensures { result ≡ boxOf line }
+    ensures { result ≡ box_of line }
 {
     Rectangle {
         first: least(line.start, line.end),
@@ -110,7 +110,7 @@ fn box_of(line: Line) -> Rectangle
 
 /// The box around two boxes.
 fn union(a: Rectangle, b: Rectangle) -> Rectangle
-    ensures { result ≡ unionOf a b }
+    ensures { result ≡ union_of a b }
 {
     Rectangle {
         first: least(a.first, b.first),
@@ -120,7 +120,7 @@ fn union(a: Rectangle, b: Rectangle) -> Rectangle
 
 /// The box around a segment's edges; around a skeleton's left edge alone, as the Rust has it.
 pub fn edges_bounding_box(segment: Segment) -> Rectangle
-    ensures { result ≡ boundingBox segment }
+    ensures { result ≡ bounding_box segment }
 {
     let e = edges(segment);
     if is_skeleton(segment) {
@@ -131,14 +131,14 @@ pub fn edges_bounding_box(segment: Segment) -> Rectangle
 
 /// A line's four coordinates.
 fn coordinates(line: Line) -> [i64; 4]
-    ensures { result ≡ coordinatesOf line }
+    ensures { result ≡ coordinates_of line }
 {
     [line.start.x, line.start.y, line.end.x, line.end.y]
 }
 
 /// How many lines close an end.
 fn cap_count(caps: Caps) -> usize
-    ensures { result ≡ length (capLines caps) }
+    ensures { result ≡ length (cap_lines caps) }
 {
     match caps {
         Caps::One(_) => 1,
@@ -149,7 +149,7 @@ fn cap_count(caps: Caps) -> usize
 
 /// How many lines of a segment are drawn: one of a skeleton, else four to six.
 pub fn perimeter_count(segment: Segment) -> usize
-    requires { SegmentNear lineLimit segment }
+    requires { SegmentNear line_limit segment }
     ensures { result ≡ count_of segment }
 {
     if is_skeleton(segment) {
@@ -161,7 +161,7 @@ pub fn perimeter_count(segment: Segment) -> usize
 /// The rows, with a line's coordinates as row `at`.
 fn with_line(rows: [[i64; 4]; 6], at: usize, line: Line) -> [[i64; 4]; 6]
     requires { at < 6 }
-    ensures { result ≡ set rows at (coordinatesOf line) }
+    ensures { result ≡ set rows at (coordinates_of line) }
 {
     let mut now = rows;
     now[at] = coordinates(line);
@@ -171,7 +171,7 @@ fn with_line(rows: [[i64; 4]; 6], at: usize, line: Line) -> [[i64; 4]; 6]
 /// The rows, with the coordinates of the lines that close an end from row `at` on.
 fn with_caps(rows: [[i64; 4]; 6], at: usize, caps: Caps) -> [[i64; 4]; 6]
     requires { at ≤ 4 }
-    ensures { result ≡ placed rows at (capLines caps) }
+    ensures { result ≡ placed rows at (cap_lines caps) }
 {
     match caps {
         Caps::One(a) => with_line(rows, at, a),
@@ -199,8 +199,8 @@ fn line_at(row: [i64; 4]) -> Line
 /// The first `n` lines of a list, met by a span in their order.
 fn scan(span: Span, lines: [[i64; 4]; 6], n: usize) -> Span
     requires n_bound { n ≤ 6 }
-    requires all_near { AllNear lineLimit lines }
-    ensures { result ≡ metRows span (take n lines) }
+    requires all_near { AllNear line_limit lines }
+    ensures { result ≡ met_rows span (take n lines) }
 {
     let mut met = span;
     let mut i: usize = 0;
@@ -214,8 +214,8 @@ fn scan(span: Span, lines: [[i64; 4]; 6], n: usize) -> Span
 
 /// The lines of a segment that are drawn, four coordinates each; behind them zeros.
 pub fn perimeter(segment: Segment) -> [[i64; 4]; 6]
-    requires { SegmentNear lineLimit segment }
-    ensures { result ≡ perimeterOf segment }
+    requires { SegmentNear line_limit segment }
+    ensures { result ≡ perimeter_of segment }
 {
     let e = edges(segment);
     let right = e.right;
@@ -235,7 +235,7 @@ pub fn perimeter(segment: Segment) -> [[i64; 4]; 6]
 
 /// The rows of a line's ends: the lesser, and the greater.
 fn line_rows(line: Line) -> Rows
-    ensures { result ≡ lineRows line }
+    ensures { result ≡ line_rows line }
 {
     let start = line.start.y;
     let end = line.end.y;
@@ -257,7 +257,7 @@ pub fn around(a: Rows, b: Rows) -> Rows
 
 /// The rows, with those of the lines that close an end.
 fn with_cap_rows(rows: Rows, caps: Caps) -> Rows
-    ensures { result ≡ withLines rows (capLines caps) }
+    ensures { result ≡ with_lines rows (cap_lines caps) }
 {
     match caps {
         Caps::One(a) => around(rows, line_rows(a)),
@@ -268,8 +268,8 @@ fn with_cap_rows(rows: Rows, caps: Caps) -> Rows
 
 /// The first and the last row of the lines that are drawn.
 pub fn drawn_rows(segment: Segment) -> Rows
-    requires { SegmentNear lineLimit segment }
-    ensures { result ≡ drawnRows segment }
+    requires { SegmentNear line_limit segment }
+    ensures { result ≡ drawn_rows segment }
 {
     let e = edges(segment);
     if is_skeleton(segment) {
@@ -283,14 +283,14 @@ pub fn drawn_rows(segment: Segment) -> Rows
 
 /// The lesser row of two corners.
 fn upper(corners: Corners) -> i64
-    ensures { result ≡ upperOf corners }
+    ensures { result ≡ upper_of corners }
 {
     lesser(corners.left.y, corners.right.y)
 }
 
 /// The greater row of two corners.
 fn lower(corners: Corners) -> i64
-    ensures { result ≡ lowerOf corners }
+    ensures { result ≡ lower_of corners }
 {
     greater(corners.left.y, corners.right.y)
 }
@@ -304,7 +304,7 @@ fn top(join: Join) -> i64
 
 /// The greatest row of a join's corners.
 fn bottom(join: Join) -> i64
-    ensures { result ≡ bottomOf join }
+    ensures { result ≡ bottom_of join }
 {
     greater(lower(join.ending), lower(join.starting))
 }
@@ -312,8 +312,8 @@ fn bottom(join: Join) -> i64
 /// The span of a segment on a row: empty, 0 to 0, where none of its drawn lines has a point there. No line is looked at if the row
 /// lies above or below all corners.
 pub fn span(segment: Segment, row: i64) -> Span
-    requires { SegmentNear lineLimit segment }
-    ensures { result ≡ spanOn segment row }
+    requires { SegmentNear line_limit segment }
+    ensures { result ≡ span_on segment row }
 {
     let empty = Span {
         row,

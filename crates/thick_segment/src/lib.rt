@@ -2,8 +2,8 @@
 //! rows, and its span on a row. `thick_segment.rs`. The position that comes with 5 is that of the join with a corner beyond 4,095,
 //! of the start join if both have one.
 ghost use Rattle.std.specs.Prelude.{◌≡◌};
-ghost use Rattle.shapes.specs.Limits.{cornerLimit};
-ghost use Rattle.thick_segment.specs.Answers.{skeletonAnswer, edgesAnswer, boxAnswer, perimeterAnswer, countAnswer, drawnRowsAnswer, segmentRefusal, spanAnswer};
+ghost use Rattle.shapes.specs.Limits.{corner_limit};
+ghost use Rattle.thick_segment.specs.Answers.{skeleton_answer, edges_answer, box_answer, perimeter_answer, count_answer, drawn_rows_answer, segment_refusal, span_answer};
 
 pub mod inner; // inner.rt: the same without the tests
 
@@ -91,7 +91,7 @@ pub struct Counted {
 
 /// Whether a segment is one pixel wide. A join with a corner beyond 4,095 is refused with 5.
 pub fn is_skeleton(segment: Segment) -> Skeletal
-    ensures { result ≡ skeletonAnswer cornerLimit segment }
+    ensures { result ≡ skeleton_answer corner_limit segment }
 {
     if is_segment_near(segment, limits::CORNER) {
         return Skeletal {
@@ -110,7 +110,7 @@ pub fn is_skeleton(segment: Segment) -> Skeletal
 /// The lines of a segment that are drawn, four coordinates each; behind them zeros. Zeros throughout where a join has a corner
 /// beyond 4,095: `perimeter_count` tells.
 pub fn perimeter(segment: Segment) -> [[i64; 4]; 6]
-    ensures { result ≡ perimeterAnswer cornerLimit segment }
+    ensures { result ≡ perimeter_answer corner_limit segment }
 {
     if is_segment_near(segment, limits::CORNER) {
         return inner::perimeter(segment);
@@ -121,7 +121,7 @@ pub fn perimeter(segment: Segment) -> [[i64; 4]; 6]
 
 /// How many lines of a segment are drawn, six at most. A join with a corner beyond 4,095 is refused with 5.
 pub fn perimeter_count(segment: Segment) -> Counted
-    ensures { result ≡ countAnswer cornerLimit segment }
+    ensures { result ≡ count_answer corner_limit segment }
 {
     if is_segment_near(segment, limits::CORNER) {
         return Counted {
@@ -139,7 +139,7 @@ pub fn perimeter_count(segment: Segment) -> Counted
 
 /// The edges of a segment: the right one along it, the left one back. A join with a corner beyond 4,095 is refused with 5.
 pub fn edges(segment: Segment) -> Edged
-    ensures { result ≡ edgesAnswer cornerLimit segment }
+    ensures { result ≡ edges_answer corner_limit segment }
 {
     if is_segment_near(segment, limits::CORNER) {
         return Edged {
@@ -167,7 +167,7 @@ pub fn edges(segment: Segment) -> Edged
 /// The box around a segment's edges; around a skeleton's left edge alone, as the Rust has it. A join with a corner beyond 4,095
 /// is refused with 5.
 pub fn edges_bounding_box(segment: Segment) -> Boxed
-    ensures { result ≡ boxAnswer cornerLimit segment }
+    ensures { result ≡ box_answer corner_limit segment }
 {
     if is_segment_near(segment, limits::CORNER) {
         return Boxed {
@@ -191,7 +191,7 @@ pub fn edges_bounding_box(segment: Segment) -> Boxed
 /// The first and the last row of the lines that are drawn: of a skeleton's right edge, else of the whole perimeter. Both rows have a drawn
 /// point, and no row outside them has one. A join with a corner beyond 4,095 is refused with 5.
 pub fn drawn_rows(segment: Segment) -> DrawnRows
-    ensures { result ≡ drawnRowsAnswer cornerLimit segment }
+    ensures { result ≡ drawn_rows_answer corner_limit segment }
 {
     if is_segment_near(segment, limits::CORNER) {
         return DrawnRows {
@@ -210,7 +210,7 @@ pub fn drawn_rows(segment: Segment) -> DrawnRows
 /// The span of a segment on a row: empty, 0 to 0, where none of its drawn lines has a point there. A join with a corner beyond
 /// 4,095 is refused with 5; then a row outside 4,095 with 6.
 pub fn span(segment: Segment, row: i64) -> SegmentSpan
-    ensures { result ≡ spanAnswer cornerLimit segment row }
+    ensures { result ≡ span_answer corner_limit segment row }
 {
     let refusal = segment_refusal(segment, row);
     if refusal == 0 {
@@ -233,7 +233,7 @@ pub fn span(segment: Segment, row: i64) -> SegmentSpan
 
 /// The refusal of a segment and a row, 0 where there is none: 5, then 6.
 fn segment_refusal(segment: Segment, row: i64) -> u64
-    ensures { result ≡ segmentRefusal cornerLimit segment row }
+    ensures { result ≡ segment_refusal corner_limit segment row }
 {
     if is_segment_near(segment, limits::CORNER) {
         if within(row, limits::CORNER) {

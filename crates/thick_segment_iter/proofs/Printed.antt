@@ -16,14 +16,14 @@ use Rattle.line_join.specs.declared.Kind.TheVariants.{Miter, Bevel, Degenerate, 
 use Rattle.line_join.specs.declared.Join.{Join}
 use Rattle.line_join.specs.Join.{end_of, join_of}
 use Rattle.line_join.proofs.Laws.{join-kind-exactly}
-use Rattle.coordinates.specs.Points.{pointAt, pointCount, points_of, segmentsOf}
+use Rattle.coordinates.specs.Points.{point_at, point_count, points_of, segments_of}
 use Rattle.coordinates.proofs.Lists.{points-in-turn, last-two}
-use Rattle.route_joins.specs.Joins.{openJoin, segmentCount, bare, openSegment, openCount}
+use Rattle.route_joins.specs.Joins.{open_join, segment_count, bare, open_segment, open_count}
 use Rattle.route_joins.proofs.Open.{first-join, last-join, inner-join, segment-is}
-use Rattle.thick_segment_iter.specs.Printed.{Iterator, isEnd, pastWindows, movedBy, answered, openSegments}
+use Rattle.thick_segment_iter.specs.Printed.{Iterator, is_end, past_windows, moved_by, answered, open_segments}
 
 -- a join of three points is no End, and the join at a route's end is one
-not_end : (k : Kind) → (k ≡ End → ⊥) → isEnd k ≡ false
+not_end : (k : Kind) → (k ≡ End → ⊥) → is_end k ≡ false
 not_end Miter h = refl
 not_end (Bevel s) h = refl
 not_end (Degenerate s) h = refl
@@ -31,11 +31,11 @@ not_end Colinear h = refl
 not_end Start h = refl
 not_end End h = absurd (h refl)
 
-bend-on : (a b c : Point) (w : ℤ) → isEnd (join_of a b c w None).kind ≡ false
+bend-on : (a b c : Point) (w : ℤ) → is_end (join_of a b c w None).kind ≡ false
 bend-on a b c w = not_end (join_of a b c w None).kind (λ e. (join-kind-exactly a b c w None End).0 e)
 
 -- past the last window
-past_is : (w : ℤ) (p q : Point) (ps : List Point) (it : Iterator) → length ps ≤ 2 → movedBy w p q ps it ≡ pastWindows w p q it
+past_is : (w : ℤ) (p q : Point) (ps : List Point) (it : Iterator) → length ps ≤ 2 → moved_by w p q ps it ≡ past_windows w p q it
 past_is w p q [] it h = refl
 past_is w p q (a ∷ []) it h = refl
 past_is w p q (a ∷ b ∷ []) it h = refl
@@ -48,13 +48,13 @@ stopped w p q it (suc calls) e = rw e
 
 module _ (cs : List ℤ) (w : ℤ) where
   abbrev n : ℕ
-  n = pointCount cs
+  n = point_count cs
 
   abbrev at : ℕ → Join
-  at k = openJoin cs w k
+  at k = open_join cs w k
 
   abbrev point : ℕ → Point
-  point k = pointAt cs k
+  point k = point_at cs k
 
   -- the iterator at place k, with windows over some points
   abbrev iterator : List Point → ℕ → Iterator
@@ -62,7 +62,7 @@ module _ (cs : List ℤ) (w : ℤ) where
 
   -- it answers the segments from place k on, and then none, however many calls more are made
   abbrev Answers : List Point → ℕ → ℕ → Type 0
-  Answers ps k left = (more : ℕ) → answered w (point (n - 2)) (point (n - 1)) (iterator ps k) (suc left + more) ≡ list_from (λ i. bare (openSegment cs w i)) k (suc left)
+  Answers ps k left = (more : ℕ) → answered w (point (n - 2)) (point (n - 1)) (iterator ps k) (suc left + more) ≡ list_from (λ i. bare (open_segment cs w i)) k (suc left)
 
   -- at the last segment
   at_last : (ps : List Point) (k : ℕ) → length ps ≤ 2 → suc (suc k) ≡ n → Answers ps k 0
@@ -79,7 +79,7 @@ module _ (cs : List ℤ) (w : ℤ) where
       let j = inner-join cs w k (omega (arith, e)) in
       let p : n - 2 ≡ suc k = omega (arith, e) in
       let q : n - 1 ≡ suc (suc k) = omega (arith, e) in
-      let on : isEnd (at (suc k)).kind ≡ false = ap (λ i. isEnd i.kind) j ∙ bend-on (point k) (point (suc k)) (point (suc (suc k))) w in
+      let on : is_end (at (suc k)).kind ≡ false = ap (λ i. is_end i.kind) j ∙ bend-on (point k) (point (suc k)) (point (suc (suc k))) w in
       let two : suc 1 + more ≡ suc (suc 0 + more) = omega arith in
       let rest = at_last ps (suc k) h e more in
       rw (two, past_is w _ _ ps (iterator ps k) h, on, segment-is cs w k) (ap (λ ss. record { start = at k; end = at (suc k) } ∷ ss) (rw (p, q, sym (last-join cs w (suc k) e)) (rw (p, q) at rest)))
@@ -98,8 +98,8 @@ module _ (cs : List ℤ) (w : ℤ) where
   from_place (suc zero) k e = before_last (point (suc k) ∷ point (suc (suc k)) ∷ []) k (lit≤ tt) (omega (arith, e))
   from_place (suc (suc left)) k e = by-window left k e (from_place (suc left) (suc k) (omega (arith, e)))
 
-  by_count : (m more : ℕ) → m ≡ n → openSegments w (list_from point 0 m) (m - 1 + more) ≡ list_from (λ i. bare (openSegment cs w i)) 0 (m - 1)
-  unfolding openSegments list_from
+  by_count : (m more : ℕ) → m ≡ n → open_segments w (list_from point 0 m) (m - 1 + more) ≡ list_from (λ i. bare (open_segment cs w i)) 0 (m - 1)
+  unfolding open_segments list_from
   by_count zero more e = refl
   by_count (suc zero) more e = refl
   by_count (suc (suc zero)) more e =
@@ -113,6 +113,6 @@ module _ (cs : List ℤ) (w : ℤ) where
       rw (less, last-two point _ m 1, sym (first-join cs w), sym (inner-join cs w 0 (omega (arith, e)))) (rw (p, q) at (from_place (suc m) 0 (omega (arith, e)) more))
 
   -- from `new` on, `next` answers the walk's segments, which have positions besides, and then none for ever
-  pub open-equal : (more : ℕ) → openSegments w (points_of cs) (openCount cs + more) ≡ list_from (λ i. bare (openSegment cs w i)) 0 (openCount cs)
-  unfolding segmentCount segmentsOf
+  pub open-equal : (more : ℕ) → open_segments w (points_of cs) (open_count cs + more) ≡ list_from (λ i. bare (open_segment cs w i)) 0 (open_count cs)
+  unfolding segment_count segments_of
   open-equal more = rw (points-in-turn cs) (by_count n more refl)

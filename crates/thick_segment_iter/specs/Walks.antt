@@ -2,19 +2,19 @@
 use Rattle.std.specs.Prelude.{false, cond, List, ℕ, eqb, ℤ, pos}
 use Rattle.shapes.specs.declared.limits.Limits.{Limits}
 use Rattle.shapes.specs.declared.Offset.TheVariants.{None}
-use Rattle.coordinates.specs.Refusal.{routeRefusal}
-use Rattle.route_joins.specs.Steps.{StepValues, routeStep, placeFrom}
+use Rattle.coordinates.specs.Refusal.{route_refusal}
+use Rattle.route_joins.specs.Steps.{StepValues, route_step, place_from}
 use Rattle.thick_segment_iter.specs.declared.Walk.{Walk}
 use Rattle.thick_segment_iter.specs.declared.Started.{Started}
 
 -- the list's and the width's refusal, k being the points' limit, with 0 for the rest; else a walk at the first segment
-unfoldable pub openStart : ℕ → List ℤ → ℤ → Started
-openStart k cs w =
-    let n = routeRefusal k false cs w in
+unfoldable pub open_start : ℕ → List ℤ → ℤ → Started
+open_start k cs w =
+    let n = route_refusal k false cs w in
     cond (eqb n 0) (record { refusal = 0; walk = record { place = 0; width = w } }) (record { refusal = n; walk = record { place = 0; width = pos 0 } })
 
-unfoldable pub openStep : Limits → List ℤ → Walk → StepValues
-openStep limits cs walk = routeStep limits false cs walk.width None walk.place
+unfoldable pub open_step : Limits → List ℤ → Walk → StepValues
+open_step limits cs walk = route_step limits false cs walk.width None walk.place
 
-unfoldable pub afterOpen : Limits → List ℤ → Walk → Walk
-afterOpen limits cs walk = record { place = placeFrom (openStep limits cs walk) walk.place; width = walk.width }
+unfoldable pub after_open : Limits → List ℤ → Walk → Walk
+after_open limits cs walk = record { place = place_from (open_step limits cs walk) walk.place; width = walk.width }

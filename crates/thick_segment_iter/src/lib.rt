@@ -1,8 +1,8 @@
 //! The walk over the segments of an open route: `thick_segment_iter.rs`. The list of coordinates is handed to each step.
 ghost use Rattle.std.specs.Prelude.{◌≡◌};
-ghost use Rattle.route_joins.specs.Steps.{stepValues};
-ghost use Rattle.shapes.specs.Limits.{pointLimit, panel as panelLimits};
-ghost use Rattle.thick_segment_iter.specs.Walks.{openStart, openStep, afterOpen};
+ghost use Rattle.route_joins.specs.Steps.{step_values};
+ghost use Rattle.shapes.specs.Limits.{point_limit, panel as panel_limits};
+ghost use Rattle.thick_segment_iter.specs.Walks.{open_start, open_step, after_open};
 
 use coordinates::refusal;
 use route_joins::Step;
@@ -36,7 +36,7 @@ pub struct Stepped {
 /// points, 3 for a width outside 0 to 64, 4 for a coordinate outside 511, 12 for two consecutive points that are equal. A route
 /// of 0 or 1 points has no segments.
 pub fn start(coordinates: &[i64], width: i64) -> Started
-    ensures { result ≡ openStart pointLimit coordinates.now width }
+    ensures { result ≡ open_start point_limit coordinates.now width }
 {
     let number = refusal(coordinates, width, false);
     if number == 0 {
@@ -54,8 +54,8 @@ pub fn start(coordinates: &[i64], width: i64) -> Started
 /// The segment at the walk's place, or the end past the last one. Refused as `start`, and with 5 if a join of the segment has a
 /// corner beyond 4,095, at the position of the first that has: the walk then stays where it is.
 pub fn step(coordinates: &[i64], walk: Walk) -> Stepped
-    ensures answers { stepValues result.step ≡ openStep panelLimits coordinates.now walk }
-    ensures moves { result.walk ≡ afterOpen panelLimits coordinates.now walk }
+    ensures answers { step_values result.step ≡ open_step panel_limits coordinates.now walk }
+    ensures moves { result.walk ≡ after_open panel_limits coordinates.now walk }
 {
     let place = walk.place;
     let width = walk.width;

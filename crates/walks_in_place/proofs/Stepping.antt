@@ -43,7 +43,7 @@ use denote.Triple.Entry.{on_entry}
 use denote.Triple.Spec.{Meets, triple_of}
 use denote.Triple.Walked.{says, Stays, stay_ref, stay_none_slice, walk_of, AllGo, Goes-ref, Goes-none_slice, Walks, ends_at, walked, walk_Meets}
 use Rattle.route_joins.specs.declared.Step.{Step}
-use Rattle.route_joins.specs.Steps.{StepValues, stepValues}
+use Rattle.route_joins.specs.Steps.{StepValues, step_values}
 use Rattle.route_joins.specs.contracts.Step as E
 use Rattle.route_joins.proofs.Step.TheLaws as E'
 
@@ -59,7 +59,7 @@ pub record Walker : Type 2 where
   pub walk : Stepped → walker.D
   pub one : (x y : Stepped) → ◌≡◌ {A = Denots (rows (E.the_field ∷ field walker ∷ []))} ((E.the_type).to (step x), (walker.to (walk x), tt)) ((E.the_type).to (step y), (walker.to (walk y), tt)) → x ≡ y
   pub step_of : List ℤ → walker.D → StepValues
-  pub walkAfter : List ℤ → walker.D → walker.D
+  pub walk_after : List ℤ → walker.D → walker.D
   pub callee : Name
 
 -- the machine value of an answer
@@ -128,13 +128,13 @@ module _ (K : Walker) where
 
   module _ {M : Type 1} {𝓤 : Ura M} (𝓛 : Logic 𝓤) where
     abbrev Answers : Bor (List ℤ) → Walk → K.Stepped → SProp 𝓤
-    Answers y h r = sep 𝓤 (fact 𝓤 (stepValues (K.step r) ≡ K.step_of y.now h)) (fact 𝓤 (K.walk r ≡ K.walkAfter y.now h))
+    Answers y h r = sep 𝓤 (fact 𝓤 (step_values (K.step r) ≡ K.step_of y.now h)) (fact 𝓤 (K.walk r ≡ K.walk_after y.now h))
 
     abbrev asked : Clauses 𝓤 by_value
     asked κs a = record { ghost = Unit {0}; requires = λ g. emp 𝓤; ensures = λ g r e. Answers a.0 a.1.0 r }
 
     abbrev pub promised : Clauses 𝓤 in_place
-    promised κs a = record { ghost = Unit {0}; requires = λ g. emp 𝓤; ensures = λ g r e. fact 𝓤 ((stepValues r ≡ K.step_of a.1.0.now a.0.now) × (e.0.now ≡ K.walkAfter a.1.0.now a.0.now)) }
+    promised κs a = record { ghost = Unit {0}; requires = λ g. emp 𝓤; ensures = λ g r e. fact 𝓤 ((step_values r ≡ K.step_of a.1.0.now a.0.now) × (e.0.now ≡ K.walk_after a.1.0.now a.0.now)) }
 
     abbrev pub ByValue : Contract 𝓤
     ByValue = triple_of 𝓛 by_value.signature (closing 𝓛 by_value asked)
@@ -164,7 +164,7 @@ module _ (K : Walker) where
     abbrev left : K.Stepped → List (Item 𝓤)
     left r = ‵ (fobs γ (T.coded.code (K.walk r))) ∷ ‵ (fbor κ (Body (mem T) b o γ)) ∷ ‵ (flft κ q) ∷ (‵ (flft κ' q') ⊛ ‵ ftrue) ∷ ‵ Shr ∷ []
 
-    exits : (r : K.Stepped) → stepValues (K.step r) ≡ K.step_of y.now h → K.walk r ≡ K.walkAfter y.now h → Is E.the_row (K.step r) (told (K.step r) ∷ []) → ent 𝓤 (⋆ 𝓛 (left r)) (Post (told (K.step r)))
+    exits : (r : K.Stepped) → step_values (K.step r) ≡ K.step_of y.now h → K.walk r ≡ K.walk_after y.now h → Is E.the_row (K.step r) (told (K.step r) ∷ []) → ent 𝓤 (⋆ 𝓛 (left r)) (Post (told (K.step r)))
     exits r e f is =
         qed 𝓛 (left r) ∵
         suffices ! _ (ends_at 𝓛 in_place stayed (promised 𝓛) (((κ, (κ', tt)), (q, (q', tt)), tt, x, at), tt) (told (K.step r)) (K.step r) (K.walk r, (tt, tt)) (tt, (tt, tt))) $ says ! (e, f) $
@@ -194,8 +194,8 @@ module _ (K : Walker) where
           move ! (18 ∷ 15 ∷ []) $ use2 𝓛 (raw ((ByValue 𝓛).pre to_step)) (goes_step is) $
           calls_at ! fm (ByValue 𝓛) known to_step (and_then ! (load ! (from ! (stop !)) (look ! 10 refl)) (and_then ! (load ! (from ! (stop !)) (look ! 6 refl)) (no_more !))) (λ v.
           use1 𝓛 (later (some (λ (r : K.Stepped). ((‵ (flft κ' q') ⊛ ‵ ftrue) ⊛ ‵ (S.own_val r (v ∷ []))) ⊛ raw (ensured 𝓛 by_value (asked 𝓛) (κ', tt) (y, (h, tt)) tt r)))) (id⊢ 𝓤 _) $ await ! tt $ pick ! (λ r.
-          split ! $ move ! (1 ∷ []) $ use1 𝓛 (raw (fact 𝓤 (stepValues (K.step r) ≡ K.step_of y.now h)) ⊛ raw (fact 𝓤 (K.walk r ≡ K.walkAfter y.now h))) (answers_of 𝓛 κ' h y r) $ split ! $
-          heard ! (stepValues (K.step r) ≡ K.step_of y.now h) (λ e. heard ! (K.walk r ≡ K.walkAfter y.now h) (λ f. split ! $ move ! (1 ∷ []) $
+          split ! $ move ! (1 ∷ []) $ use1 𝓛 (raw (fact 𝓤 (step_values (K.step r) ≡ K.step_of y.now h)) ⊛ raw (fact 𝓤 (K.walk r ≡ K.walk_after y.now h))) (answers_of 𝓛 κ' h y r) $ split ! $
+          heard ! (step_values (K.step r) ≡ K.step_of y.now h) (λ e. heard ! (K.walk r ≡ K.walk_after y.now h) (λ f. split ! $ move ! (1 ∷ []) $
           peeks ! S (Is S) (shows 𝓛 S) r (v ∷ []) (λ are.
           land ! (from ! (stop !)) (init ! 9 refl ((LL.lawful answer answer-laws 𝓛).typed r _ are).0) $
           rewrite ! 9 (λ (u : Val). ‵ (fat full_share (lone S.mir) l₃ 0 u)) (head-is (LL.tells answer answer-laws r (v ∷ []) are)) refl $

@@ -2,13 +2,13 @@
 use Rattle.shapes.specs.Limits.{panel}
 use Rattle.walks_in_place.proofs.Stepping.{Walker}
 use Rattle.thick_segment_iter.specs.declared.Stepped.{Stepped as OpenStepped}
-use Rattle.thick_segment_iter.specs.Walks.{openStep, afterOpen}
+use Rattle.thick_segment_iter.specs.Walks.{open_step, after_open}
 use Rattle.thick_segment_iter.specs.contracts.Walk as open-walk
 use Rattle.thick_segment_iter.proofs.Walk.TheLaws as open-laws
 use Rattle.thick_segment_iter.specs.contracts.Stepped as open-answer
-use Rattle.thick_segment_iter.proofs.step.Symbol as open_step
+use Rattle.thick_segment_iter.proofs.step.Symbol as open-step
 use Rattle.closed_thick_segment_iter.specs.declared.Stepped.{Stepped as ClosedStepped}
-use Rattle.closed_thick_segment_iter.specs.Walks.{closed_step, afterClosed}
+use Rattle.closed_thick_segment_iter.specs.Walks.{closed_step, after_closed}
 use Rattle.closed_thick_segment_iter.specs.contracts.Walk as closed-walk
 use Rattle.closed_thick_segment_iter.proofs.Walk.TheLaws as closed-laws
 use Rattle.closed_thick_segment_iter.specs.contracts.Stepped as closed-answer
@@ -25,9 +25,9 @@ open-walker = record {
   step = λ r. r.step;
   walk = λ r. r.walk;
   one = (open-answer.the_type).to_one;
-  step_of = openStep panel;
-  walkAfter = afterOpen panel;
-  callee = open_step.name;
+  step_of = open_step panel;
+  walk_after = after_open panel;
+  callee = open-step.name;
 }
 
 abbrev pub closed-walker : Walker
@@ -42,6 +42,6 @@ closed-walker = record {
   walk = λ r. r.walk;
   one = (closed-answer.the_type).to_one;
   step_of = closed_step panel;
-  walkAfter = afterClosed panel;
+  walk_after = after_closed panel;
   callee = closed-step.name;
 }

@@ -6,7 +6,7 @@ use native.Mathlib.Omega.{arith}
 use lib.IntN.{ℤ, pos, ◌+ℤ◌, ◌-ℤ◌}
 use lib.Signed.{lt_z, ◌≤ℤ◌, ◌<ℤ◌, ≤ℤ_refl}
 use Rattle.whole.specs.Number.{lesser, greater}
-use Rattle.whole.specs.Columns.{between, countFrom}
+use Rattle.whole.specs.Columns.{between, count_from}
 use Rattle.whole.proofs.Linear.{up, dn, linear, sum, diff}
 use Rattle.whole.proofs.Orders.{ordered}
 use Rattle.whole.proofs.Tests.{and_left, and_right}
@@ -102,13 +102,13 @@ between-joined s e a b x p q =
 -- ---- how many
 
 -- tests that agree from x on
-pub count_same : (p q : ℤ → Bool) (x : ℤ) (n : ℕ) → ((y : ℤ) → x ≤ℤ y → p y ≡ q y) → countFrom p x n ≡ countFrom q x n
-unfolding countFrom
+pub count_same : (p q : ℤ → Bool) (x : ℤ) (n : ℕ) → ((y : ℤ) → x ≤ℤ y → p y ≡ q y) → count_from p x n ≡ count_from q x n
+unfolding count_from
 count_same p q x zero h = refl
 count_same p q x (suc n) h = rw (h x (≤ℤ_refl x), count_same p q (x +ℤ pos 1) n (λ y l. h y (omega (linear, sum x (pos 1)))))
 
-pub count_none : (x : ℤ) (n : ℕ) → countFrom (λ y. false) x n ≡ 0
-unfolding countFrom
+pub count_none : (x : ℤ) (n : ℕ) → count_from (λ y. false) x n ≡ 0
+unfolding count_from
 count_none x zero = refl
 count_none x (suc n) = rw (count_none (x +ℤ pos 1) n)
 
@@ -119,18 +119,18 @@ apart false true h = refl
 apart false false h = refl
 
 pub count-either : (p q : ℤ → Bool) (x : ℤ) (n : ℕ) → ((y : ℤ) → p y ≡ true → q y ≡ false)
-    → countFrom (λ y. p y || q y) x n ≡ countFrom p x n + countFrom q x n
-unfolding countFrom
+    → count_from (λ y. p y || q y) x n ≡ count_from p x n + count_from q x n
+unfolding count_from
 count-either p q x zero h = refl
 count-either p q x (suc n) h = omega (arith, apart (p x) (q x) (h x), count-either p q (x +ℤ pos 1) n h)
 
 -- those from s to e, where all of them are among the n from x on; the numbers stand by their parts
 abbrev Counted : ℤ → ℤ → ℤ → ℕ → Type 0
-Counted s e x n = countFrom (between s e) x n + (up s + dn e) ≡ up e + dn s
+Counted s e x n = count_from (between s e) x n + (up s + dn e) ≡ up e + dn s
 
 between-by : (s e x : ℤ) (n : ℕ) (t u : Bool) → lt_z x s ≡ t → lt_z x e ≡ u → x ≤ℤ s → s ≤ℤ e
     → ((from : ℤ) → (x +ℤ pos 1) ≤ℤ from → from ≤ℤ e → Counted from e (x +ℤ pos 1) n) → Counted s e x (suc n)
-unfolding countFrom
+unfolding count_from
 between-by s e x n true u low high a b more = rw (between-low s e x low) (omega (ordered, more s (omega (ordered, sum x (pos 1))) b))
 between-by s e x n false true low high a b more =
     let next = x +ℤ pos 1 in
@@ -142,13 +142,13 @@ between-by s e x n false false low high a b more =
     rw (between-high s e x high, same, count_none next n) (omega ordered)
 
 counted : (s e x : ℤ) (n : ℕ) → x ≤ℤ s → s ≤ℤ e → e ≤ℤ (x +ℤ pos n) → Counted s e x n
-unfolding countFrom
+unfolding count_from
 counted s e x zero a b c = omega (linear, sum x (pos 0))
 counted s e x (suc n) a b c =
     between-by s e x n (lt_z x s) (lt_z x e) refl refl a b
     (λ from l m. counted from e (x +ℤ pos 1) n l m (omega (linear, sum x (pos (suc n)), sum (x +ℤ pos 1) (pos n), sum x (pos 1))))
 
-pub count-between : (s e x : ℤ) (n : ℕ) → x ≤ℤ s → s ≤ℤ e → e ≤ℤ (x +ℤ pos n) → pos (countFrom (between s e) x n) ≡ e -ℤ s
+pub count-between : (s e x : ℤ) (n : ℕ) → x ≤ℤ s → s ≤ℤ e → e ≤ℤ (x +ℤ pos n) → pos (count_from (between s e) x n) ≡ e -ℤ s
 count-between s e x n a b c = omega (linear, counted s e x n a b c, diff e s)
 
 -- ---- how many of n numbers can pass a test
@@ -157,7 +157,7 @@ one-most : (t : Bool) → cond t 1 0 ≤ 1
 one-most true = omega arith
 one-most false = omega arith
 
-pub count_most : (p : ℤ → Bool) (x : ℤ) (n : ℕ) → countFrom p x n ≤ n
-unfolding countFrom
+pub count_most : (p : ℤ → Bool) (x : ℤ) (n : ℕ) → count_from p x n ≤ n
+unfolding count_from
 count_most p x zero = omega arith
 count_most p x (suc n) = omega (arith, one-most (p x), count_most p (x +ℤ pos 1) n)

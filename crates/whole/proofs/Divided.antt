@@ -13,7 +13,7 @@ use lib.Signed.{mag, quot_z}
 use Rattle.whole.specs.declared.Division.{Division}
 use Rattle.whole.specs.declared.Division.TheVariants.{Exact, Half, Rounded}
 use Rattle.whole.specs.Rounded.{Nearest}
-use Rattle.whole.specs.Divided.{divisionOf, Whole, Halfway, ComesOut, Further}
+use Rattle.whole.specs.Divided.{division_of, Whole, Halfway, ComesOut, Further}
 use Rattle.whole.proofs.Linear.{linear, sum, opp, times}
 use Rattle.whole.proofs.Bounds.{abs_neg, abs-mul}
 use Rattle.whole.proofs.Products.{negℤ-*ℤ, *ℤ-cancel}
@@ -106,8 +106,8 @@ module _ (n d : ℤ) (some : d ≢ pos 0) where
   comes-by false false e f = (λ w. eqb-false (rest n d) 0 e (of-whole n d w), λ h. eqb-false (2 * rest n d) (nat_abs d) f (of-halfway n d some h))
 
   -- one of the three always holds
-  pub comes-out : ComesOut (divisionOf n d) n d
-  unfolding divisionOf
+  pub comes-out : ComesOut (division_of n d) n d
+  unfolding division_of
   comes-out = comes-by (eqb (rest n d) 0) (eqb (2 * rest n d) (nat_abs d)) refl refl
 
   -- and no two of them
@@ -123,8 +123,8 @@ module _ (n d : ℤ) (some : d ≢ pos 0) where
   ways-exclusive Rounded Rounded p q = refl
 
   -- exact exactly when n / d is a whole number, half exactly when twice n / d is an odd one, rounded exactly when neither
-  pub division-exactly : (v : Division) → (divisionOf n d ≡ v) ↔ ComesOut v n d
-  division-exactly v = (λ e. subst (λ u. ComesOut u n d) e comes-out, ways-exclusive (divisionOf n d) v comes-out)
+  pub division-exactly : (v : Division) → (division_of n d ≡ v) ↔ ComesOut v n d
+  division-exactly v = (λ e. subst (λ u. ComesOut u n d) e comes-out, ways-exclusive (division_of n d) v comes-out)
 
 -- ---- of a fraction, whichever way it is written: n / d and p / q are one
 
@@ -148,10 +148,10 @@ comes-out-ratio Rounded n d p q sd sq same c = (λ w. c.0 (whole-ratio p q n d s
 -- ---- the nearest whole number
 
 outermost-further : (b : ℤ) → Further b (outermost b)
-outermost-further (pos k) = record { one = inr refl; than-below = omega arith; than-above = omega arith }
+outermost-further (pos k) = record { one = inr refl; than_below = omega arith; than_above = omega arith }
 outermost-further (negsuc k) =
     let above : negsuc k +ℤ pos 1 ≡ neg_ℤ (pos k) = omega (linear, sum (negsuc k) (pos 1), opp (pos k)) in
-    record { one = inl refl; than-below = omega arith; than-above = omega (arith, ap nat_abs above, abs_neg (pos k)) }
+    record { one = inl refl; than_below = omega arith; than_above = omega (arith, ap nat_abs above, abs_neg (pos k)) }
 
 -- how far it is from half way
 outermost-gap : (n d b : ℤ) → odd b *ℤ d ≡ pos 2 *ℤ n → 2 * nat_abs (outermost b *ℤ d -ℤ n) ≡ nat_abs d

@@ -9,7 +9,7 @@ use native.Mathlib.Omega.{arith}
 use borrow.Author.Tests.{le-leb, leb-true, le-ltb}
 use lib.IntN.{ℤ, pos, negsuc, nat_abs, neg_ℤ, ◌+ℤ◌, ◌-ℤ◌, ◌*ℤ◌, neg_ℤ-neg_ℤ, *ℤ_comm}
 use lib.Signed.{lt_z, ◌≤ℤ◌}
-use Rattle.whole.specs.Number.{Within, isWithin, lesser, greater}
+use Rattle.whole.specs.Number.{Within, is_within, lesser, greater}
 use Rattle.whole.specs.Rounded.{rounded, Nearest}
 use Rattle.whole.proofs.Linear.{up, dn, linear, sum, opp, diff, times, abs-parts, abs-le, le-or-lt, eq-or-apart}
 use Rattle.whole.proofs.Bounds.{abs_neg, abs-mul}
@@ -18,15 +18,15 @@ use Rattle.whole.proofs.Ring.{con, neg, ◌⊖◌, ◌⊗◌, ◌≈◌, since, 
 
 -- ---- bounds
 
-pub true-within : (n : ℕ) (z : ℤ) → isWithin n z ≡ true → Within z n
-unfolding isWithin
+pub true-within : (n : ℕ) (z : ℤ) → is_within n z ≡ true → Within z n
+unfolding is_within
 true-within n z e = record { bound = leb-true (nat_abs z) n e }
 
-pub within-true : {n : ℕ} {z : ℤ} → Within z n → isWithin n z ≡ true
-unfolding isWithin
+pub within-true : {n : ℕ} {z : ℤ} → Within z n → is_within n z ≡ true
+unfolding is_within
 within-true {n} {z} w = le-leb (nat_abs z) n w.bound
 
-pub within-iff : (n : ℕ) (z : ℤ) → (isWithin n z ≡ true) ↔ Within z n
+pub within-iff : (n : ℕ) (z : ℤ) → (is_within n z ≡ true) ↔ Within z n
 within-iff n z = (true-within n z, within-true)
 
 -- ---- the lesser and the greater

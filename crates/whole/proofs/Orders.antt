@@ -8,7 +8,7 @@ use borrow.Author.Tests.{eqb-true, leb-true, leb-false, lt-ltb, le-ltb, le-leb, 
 use lib.Dec.{ltb→lt, lt→ltb}
 use lib.IntN.{ℤ, pos, negsuc}
 use lib.Signed.{lt_z, le_z, ◌<ℤ◌}
-use Rattle.whole.specs.Number.{eqZ}
+use Rattle.whole.specs.Number.{eq_z}
 use Rattle.whole.proofs.Linear.{up, dn, linear}
 
 -- ---- orders
@@ -68,24 +68,24 @@ pub ruleset ordered = (linear, lt_of, lt-to, le-true, le-false, lt_yes, lt_not, 
 
 -- ---- equality
 
-pub eqZ-refl : (x : ℤ) → eqZ x x ≡ true
-eqZ-refl (pos a) = eq-eqb a a refl
-eqZ-refl (negsuc a) = eq-eqb a a refl
+pub eq_z-refl : (x : ℤ) → eq_z x x ≡ true
+eq_z-refl (pos a) = eq-eqb a a refl
+eq_z-refl (negsuc a) = eq-eqb a a refl
 
-pub eqZ-no : (x y : ℤ) → (x ≡ y → ⊥) → eqZ x y ≡ false
-eqZ-no (pos a) (pos b) h = ne_eqb a b (λ e. h (ap pos e))
-eqZ-no (pos a) (negsuc b) h = refl
-eqZ-no (negsuc a) (pos b) h = refl
-eqZ-no (negsuc a) (negsuc b) h = ne_eqb a b (λ e. h (ap negsuc e))
+pub eq_z-no : (x y : ℤ) → (x ≡ y → ⊥) → eq_z x y ≡ false
+eq_z-no (pos a) (pos b) h = ne_eqb a b (λ e. h (ap pos e))
+eq_z-no (pos a) (negsuc b) h = refl
+eq_z-no (negsuc a) (pos b) h = refl
+eq_z-no (negsuc a) (negsuc b) h = ne_eqb a b (λ e. h (ap negsuc e))
 
-pub eqZ-true : (x y : ℤ) → eqZ x y ≡ true → x ≡ y
-eqZ-true (pos a) (pos b) e = ap pos (eqb-true a b e)
-eqZ-true (pos a) (negsuc b) e = cc
-eqZ-true (negsuc a) (pos b) e = cc
-eqZ-true (negsuc a) (negsuc b) e = ap negsuc (eqb-true a b e)
+pub eq_z-true : (x y : ℤ) → eq_z x y ≡ true → x ≡ y
+eq_z-true (pos a) (pos b) e = ap pos (eqb-true a b e)
+eq_z-true (pos a) (negsuc b) e = cc
+eq_z-true (negsuc a) (pos b) e = cc
+eq_z-true (negsuc a) (negsuc b) e = ap negsuc (eqb-true a b e)
 
-pub eqZ-false : (x y : ℤ) → eqZ x y ≡ false → x ≡ y → ⊥
-eqZ-false x y e same = let z : ◌≡◌ {A = ℕ} 0 1 = cc (e, (rw same at (eqZ-refl x))) in omega arith
+pub eq_z-false : (x y : ℤ) → eq_z x y ≡ false → x ≡ y → ⊥
+eq_z-false x y e same = let z : ◌≡◌ {A = ℕ} 0 1 = cc (e, (rw same at (eq_z-refl x))) in omega arith
 
-pub eqZ-iff : (x y : ℤ) → (eqZ x y ≡ true) ↔ (x ≡ y)
-eqZ-iff x y = (eqZ-true x y, λ e. rw e (eqZ-refl y))
+pub eq_z-iff : (x y : ℤ) → (eq_z x y ≡ true) ↔ (x ≡ y)
+eq_z-iff x y = (eq_z-true x y, λ e. rw e (eq_z-refl y))

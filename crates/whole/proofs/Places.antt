@@ -10,7 +10,7 @@ use native.Mathlib.Omega.{arith}
 use borrow.Author.Tests.{eqb-true, eqb-false, eq-eqb, ne_eqb}
 use lib.Dec.{eqb}
 use lib.ListN.{length, get_or}
-use Rattle.whole.specs.Places.{all_from, someFrom, SomePlace, failsFrom, passedWith, FirstFailing, list_from}
+use Rattle.whole.specs.Places.{all_from, some_from, SomePlace, fails_from, passed_with, FirstFailing, list_from}
 use Rattle.whole.proofs.Linear.{le-or-lt}
 use Rattle.whole.proofs.Tests.{and_left, and_right, or-second, either, clash}
 
@@ -49,13 +49,13 @@ module _ (test : ℕ → Bool) where
 -- ---- a test of some places
 
 module _ (test : ℕ → Bool) where
-  pub some_end : (n i : ℕ) → n ≤ i → someFrom test i (n - i) ≡ false
-  unfolding someFrom
+  pub some_end : (n i : ℕ) → n ≤ i → some_from test i (n - i) ≡ false
+  unfolding some_from
   some_end n i h = let none : n - i ≡ 0 = omega arith in rw none
 
   -- the next place, and those after it
-  pub some_next : (n i : ℕ) → i < n → (t : Bool) → test i ≡ t → someFrom test i (n - i) ≡ (t || someFrom test (i + 1) (n - (i + 1)))
-  unfolding someFrom
+  pub some_next : (n i : ℕ) → i < n → (t : Bool) → test i ≡ t → some_from test i (n - i) ≡ (t || some_from test (i + 1) (n - (i + 1)))
+  unfolding some_from
   some_next n i h t e =
       let left : n - i ≡ suc (n - (i + 1)) = omega arith in
       rw (left, e, add-one i)
@@ -65,43 +65,43 @@ module _ (test : ℕ → Bool) where
   here-or-later i n later true h passes found e = record { place = i; inside = h; passes = passes }
   here-or-later i n later false h passes found e = found e
 
-  found_from : (left i n : ℕ) → i + left ≤ n → someFrom test i left ≡ true → SomePlace test n
-  unfolding someFrom
+  found_from : (left i n : ℕ) → i + left ≤ n → some_from test i left ≡ true → SomePlace test n
+  unfolding some_from
   found_from zero i n h e = absurd (clash e refl)
-  found_from (suc left) i n h e = here-or-later i n (someFrom test (suc i) left) (test i) (omega arith) refl (found_from left (suc i) n (omega arith)) e
+  found_from (suc left) i n h e = here-or-later i n (some_from test (suc i) left) (test i) (omega arith) refl (found_from left (suc i) n (omega arith)) e
 
   -- and none is passed over
-  held-from : (left i d : ℕ) → d < left → test (i + d) ≡ true → someFrom test i left ≡ true
-  unfolding someFrom
+  held-from : (left i d : ℕ) → d < left → test (i + d) ≡ true → some_from test i left ≡ true
+  unfolding some_from
   held-from zero i d h e = absurd (omega arith)
   held-from (suc left) i zero h e = let same : i + 0 ≡ i = omega arith in rw (rw same at e)
   held-from (suc left) i (suc d) h e =
       let on : i + suc d ≡ suc i + d = omega arith in
-      or-second (test i) (someFrom test (suc i) left) (held-from left (suc i) d (omega arith) (rw on at e))
+      or-second (test i) (some_from test (suc i) left) (held-from left (suc i) d (omega arith) (rw on at e))
 
-  pub some-exactly : (n : ℕ) → (someFrom test 0 n ≡ true) ↔ SomePlace test n
+  pub some-exactly : (n : ℕ) → (some_from test 0 n ≡ true) ↔ SomePlace test n
   some-exactly n = (found_from n 0 n (omega arith), λ s. held-from n 0 s.place s.inside (simp zero-add s.passes))
 
 -- ---- the first place that fails a test
 
 module _ (test : ℕ → Bool) where
-  pub fails-end : (n i : ℕ) → i ≡ n → failsFrom test i (n - i) ≡ n
-  unfolding failsFrom
+  pub fails-end : (n i : ℕ) → i ≡ n → fails_from test i (n - i) ≡ n
+  unfolding fails_from
   fails-end n i e = let none : n - i ≡ 0 = omega (arith, e) in rw none e
 
   -- the next place, and those after it
-  pub fails-next : (n i : ℕ) → i < n → (t : Bool) → test i ≡ t → failsFrom test i (n - i) ≡ cond t (failsFrom test (i + 1) (n - (i + 1))) i
-  unfolding failsFrom
+  pub fails-next : (n i : ℕ) → i < n → (t : Bool) → test i ≡ t → fails_from test i (n - i) ≡ cond t (fails_from test (i + 1) (n - (i + 1))) i
+  unfolding fails_from
   fails-next n i h t e =
       let left : n - i ≡ suc (n - (i + 1)) = omega arith in
       rw (left, e, add-one i)
 
   -- a loop at place i has counted those from the first on that pass: what it comes to, if all so far did or not
   abbrev pub Counted : ℕ → ℕ → ℕ → ℕ
-  Counted n passed i = cond (eqb passed i) (failsFrom test i (n - i)) passed
+  Counted n passed i = cond (eqb passed i) (fails_from test i (n - i)) passed
 
-  counted-by : (n passed i : ℕ) (t u : Bool) → passed ≤ i → i < n → eqb passed i ≡ t → test i ≡ u → Counted n (passedWith passed i u) (i + 1) ≡ Counted n passed i
-  unfolding passedWith
+  counted-by : (n passed i : ℕ) (t u : Bool) → passed ≤ i → i < n → eqb passed i ≡ t → test i ≡ u → Counted n (passed_with passed i u) (i + 1) ≡ Counted n passed i
+  unfolding passed_with
   counted-by n passed i true true le more e f = rw (e, eq-eqb (i + 1) (i + 1) refl, fails-next n i more true f)
   counted-by n passed i true false le more e f =
       let same = eqb-true passed i e in
@@ -109,17 +109,17 @@ module _ (test : ℕ → Bool) where
   counted-by n passed i false true le more e f = let other = eqb-false passed i e in rw (e, ne_eqb passed (i + 1) (λ z. omega (arith, other, z, le)))
   counted-by n passed i false false le more e f = let other = eqb-false passed i e in rw (e, ne_eqb passed (i + 1) (λ z. omega (arith, other, z, le)))
 
-  pub counted-more : (n passed i : ℕ) → passed ≤ i → i < n → Counted n (passedWith passed i (test i)) (i + 1) ≡ Counted n passed i
+  pub counted-more : (n passed i : ℕ) → passed ≤ i → i < n → Counted n (passed_with passed i (test i)) (i + 1) ≡ Counted n passed i
   counted-more n passed i le more = counted-by n passed i (eqb passed i) (test i) le more refl refl
 
-  pub counted-most : (passed i : ℕ) (t : Bool) → passed ≤ i → passedWith passed i t ≤ i + 1
-  unfolding passedWith
+  pub counted-most : (passed i : ℕ) (t : Bool) → passed ≤ i → passed_with passed i t ≤ i + 1
+  unfolding passed_with
   counted-most passed i t le = either (λ m. m ≤ i + 1) (t && eqb passed i) (λ e. omega arith) (λ e. omega arith)
 
   pub counted-done : (n passed : ℕ) → Counted n passed n ≡ passed
   counted-done n passed = by (eqb passed n) refl
     where
-      by : (t : Bool) → eqb passed n ≡ t → cond t (failsFrom test n (n - n)) passed ≡ passed
+      by : (t : Bool) → eqb passed n ≡ t → cond t (fails_from test n (n - n)) passed ≡ passed
       by true e = fails-end n n refl ∙ sym (eqb-true passed n e)
       by false e = refl
 
@@ -132,18 +132,18 @@ module _ (test : ℕ → Bool) where
   passed : (i : ℕ) → ((j : ℕ) → j < i → test j ≡ true) → test i ≡ true → (j : ℕ) → j < suc i → test j ≡ true
   passed i f here j h = ⊎_elim (λ le. let same : j ≡ i = omega (arith, le, h) in rw same here) (f j) (le-or-lt i j)
 
-  failing-by : (left i n : ℕ) (t : Bool) → i + suc left ≡ n → ((j : ℕ) → j < i → test j ≡ true) → test i ≡ t → (((j : ℕ) → j < suc i → test j ≡ true) → Told n (failsFrom test (suc i) left)) → Told n (cond t (failsFrom test (suc i) left) i)
+  failing-by : (left i n : ℕ) (t : Bool) → i + suc left ≡ n → ((j : ℕ) → j < i → test j ≡ true) → test i ≡ t → (((j : ℕ) → j < suc i → test j ≡ true) → Told n (fails_from test (suc i) left)) → Told n (cond t (fails_from test (suc i) left) i)
   failing-by left i n true e f here later = later (passed i f here)
   failing-by left i n false e f here later = record { most = omega (arith, e); before = f; fails = λ h. here }
 
-  failing-from : (left i n : ℕ) → i + left ≡ n → ((j : ℕ) → j < i → test j ≡ true) → Told n (failsFrom test i left)
-  unfolding failsFrom
+  failing-from : (left i n : ℕ) → i + left ≡ n → ((j : ℕ) → j < i → test j ≡ true) → Told n (fails_from test i left)
+  unfolding fails_from
   failing-from zero i n e f = record { most = omega (arith, e); before = f; fails = λ h. absurd (omega (arith, e, h)) }
   failing-from (suc left) i n e f = failing-by left i n (test i) e f refl (failing-from left (suc i) n (omega (arith, e)))
 
   module _ (n : ℕ) where
     abbrev found : ℕ
-    found = failsFrom test 0 n
+    found = fails_from test 0 n
 
     told : Told n found
     told = failing-from n 0 n (omega arith) (λ j h. absurd (omega arith))

@@ -43,29 +43,29 @@ abbrev pub ins : ℕ → List ℕ → List ℕ
 ins i [] = i ∷ []
 ins i (j ∷ m) = elim (leb i j) [ true ↦ i ∷ (j ∷ m) | false ↦ j ∷ ins i m ]
 
-abbrev pub mulM : List ℕ → List ℕ → List ℕ
-mulM [] n = n
-mulM (i ∷ m) n = ins i (mulM m n)
+abbrev pub mul_m : List ℕ → List ℕ → List ℕ
+mul_m [] n = n
+mul_m (i ∷ m) n = ins i (mul_m m n)
 
-abbrev pub eqM : List ℕ → List ℕ → Bool
-eqM [] [] = true
-eqM [] (j ∷ n) = false
-eqM (i ∷ m) [] = false
-eqM (i ∷ m) (j ∷ n) = elim (eqb i j) [ true ↦ eqM m n | false ↦ false ]
+abbrev pub eq_m : List ℕ → List ℕ → Bool
+eq_m [] [] = true
+eq_m [] (j ∷ n) = false
+eq_m (i ∷ m) [] = false
+eq_m (i ∷ m) (j ∷ n) = elim (eqb i j) [ true ↦ eq_m m n | false ↦ false ]
 
 -- c times the product m, added
-abbrev pub addT : ℤ → List ℕ → Poly → Poly
-addT c m nil = term c m nil
-addT c m (term d n p) = elim (eqM m n) [ true ↦ term (c +ℤ d) n p | false ↦ term d n (addT c m p) ]
+abbrev pub add_t : ℤ → List ℕ → Poly → Poly
+add_t c m nil = term c m nil
+add_t c m (term d n p) = elim (eq_m m n) [ true ↦ term (c +ℤ d) n p | false ↦ term d n (add_t c m p) ]
 
 -- c m p + q
 abbrev pub mac : ℤ → List ℕ → Poly → Poly → Poly
 mac c m nil q = q
-mac c m (term d n p) q = addT (c *ℤ d) (mulM m n) (mac c m p q)
+mac c m (term d n p) q = add_t (c *ℤ d) (mul_m m n) (mac c m p q)
 
-abbrev pub mulP : Poly → Poly → Poly
-mulP nil q = nil
-mulP (term c m p) q = mac c m q (mulP p q)
+abbrev pub mul_p : Poly → Poly → Poly
+mul_p nil q = nil
+mul_p (term c m p) q = mac c m q (mul_p p q)
 
 abbrev pub norm : Expr → Poly
 norm (var i) = term (pos 1) (i ∷ []) nil
@@ -73,89 +73,89 @@ norm (con z) = term z [] nil
 norm (neg a) = mac (negsuc 0) [] (norm a) nil
 norm (a ⊕ b) = mac (pos 1) [] (norm b) (norm a)
 norm (a ⊖ b) = mac (negsuc 0) [] (norm b) (norm a)
-norm (a ⊗ b) = mulP (norm a) (norm b)
+norm (a ⊗ b) = mul_p (norm a) (norm b)
 
 -- the terms whose coefficient is not 0
-abbrev pub isZ : ℤ → Bool
-isZ (pos zero) = true
-isZ (pos (suc n)) = false
-isZ (negsuc n) = false
+abbrev pub is_z : ℤ → Bool
+is_z (pos zero) = true
+is_z (pos (suc n)) = false
+is_z (negsuc n) = false
 
 abbrev pub left : Poly → Poly
 left nil = nil
-left (term c m p) = elim (isZ c) [ true ↦ left p | false ↦ term c m (left p) ]
+left (term c m p) = elim (is_z c) [ true ↦ left p | false ↦ term c m (left p) ]
 
 -- ---- what these say
-eqM-eq : (m n : List ℕ) → T (eqM m n) → m ≡ n
-eqM-eq [] [] t = refl
-eqM-eq [] (j ∷ n) t = absurd t
-eqM-eq (i ∷ m) [] t = absurd t
-eqM-eq (i ∷ m) (j ∷ n) t = go (eqb i j) (eqb→eq i j) (eqM-eq m n) t
+eq_m-eq : (m n : List ℕ) → T (eq_m m n) → m ≡ n
+eq_m-eq [] [] t = refl
+eq_m-eq [] (j ∷ n) t = absurd t
+eq_m-eq (i ∷ m) [] t = absurd t
+eq_m-eq (i ∷ m) (j ∷ n) t = go (eqb i j) (eqb→eq i j) (eq_m-eq m n) t
   where
-    go : (b : Bool) → (T b → i ≡ j) → (T (eqM m n) → m ≡ n) → T (elim b [ true ↦ eqM m n | false ↦ false ]) → i ∷ m ≡ j ∷ n
+    go : (b : Bool) → (T b → i ≡ j) → (T (eq_m m n) → m ≡ n) → T (elim b [ true ↦ eq_m m n | false ↦ false ]) → i ∷ m ≡ j ∷ n
     go true f g t = cc (f tt, g t)
     go false f g t = absurd t
 
-isZ-eq : (c : ℤ) → T (isZ c) → c ≡ pos 0
-isZ-eq (pos zero) t = refl
-isZ-eq (pos (suc n)) t = absurd t
-isZ-eq (negsuc n) t = absurd t
+is_z-eq : (c : ℤ) → T (is_z c) → c ≡ pos 0
+is_z-eq (pos zero) t = refl
+is_z-eq (pos (suc n)) t = absurd t
+is_z-eq (negsuc n) t = absurd t
 
 module _ (ρ : List ℤ) where
-  abbrev evM : List ℕ → ℤ
-  evM [] = pos 1
-  evM (i ∷ m) = get_or ρ i (pos 0) *ℤ evM m
+  abbrev ev_m : List ℕ → ℤ
+  ev_m [] = pos 1
+  ev_m (i ∷ m) = get_or ρ i (pos 0) *ℤ ev_m m
 
-  abbrev evP : Poly → ℤ
-  evP nil = pos 0
-  evP (term c m p) = c *ℤ evM m +ℤ evP p
+  abbrev ev_p : Poly → ℤ
+  ev_p nil = pos 0
+  ev_p (term c m p) = c *ℤ ev_m m +ℤ ev_p p
 
-  ins-ok : (i : ℕ) (m : List ℕ) → evM (ins i m) ≡ get_or ρ i (pos 0) *ℤ evM m
+  ins-ok : (i : ℕ) (m : List ℕ) → ev_m (ins i m) ≡ get_or ρ i (pos 0) *ℤ ev_m m
   ins-ok i [] = refl
   ins-ok i (j ∷ m) = go (leb i j) (ins-ok i m)
     where
-      go : (t : Bool) → evM (ins i m) ≡ get_or ρ i (pos 0) *ℤ evM m → evM (elim t [ true ↦ i ∷ (j ∷ m) | false ↦ j ∷ ins i m ]) ≡ get_or ρ i (pos 0) *ℤ evM (j ∷ m)
+      go : (t : Bool) → ev_m (ins i m) ≡ get_or ρ i (pos 0) *ℤ ev_m m → ev_m (elim t [ true ↦ i ∷ (j ∷ m) | false ↦ j ∷ ins i m ]) ≡ get_or ρ i (pos 0) *ℤ ev_m (j ∷ m)
       go true h = refl
-      go false h = ap (λ x. get_or ρ j (pos 0) *ℤ x) h ∙ *ℤ-left (get_or ρ j (pos 0)) (get_or ρ i (pos 0)) (evM m)
+      go false h = ap (λ x. get_or ρ j (pos 0) *ℤ x) h ∙ *ℤ-left (get_or ρ j (pos 0)) (get_or ρ i (pos 0)) (ev_m m)
 
-  mulM-ok : (m n : List ℕ) → evM (mulM m n) ≡ evM m *ℤ evM n
-  mulM-ok [] n = sym (id-*ℤ (evM n))
-  mulM-ok (i ∷ m) n = ins-ok i (mulM m n) ∙ ap (λ x. get_or ρ i (pos 0) *ℤ x) (mulM-ok m n) ∙ sym (*ℤ-assoc (get_or ρ i (pos 0)) (evM m) (evM n))
+  mul_m-ok : (m n : List ℕ) → ev_m (mul_m m n) ≡ ev_m m *ℤ ev_m n
+  mul_m-ok [] n = sym (id-*ℤ (ev_m n))
+  mul_m-ok (i ∷ m) n = ins-ok i (mul_m m n) ∙ ap (λ x. get_or ρ i (pos 0) *ℤ x) (mul_m-ok m n) ∙ sym (*ℤ-assoc (get_or ρ i (pos 0)) (ev_m m) (ev_m n))
 
-  addT-ok : (c : ℤ) (m : List ℕ) (p : Poly) → evP (addT c m p) ≡ c *ℤ evM m +ℤ evP p
-  addT-ok c m nil = refl
-  addT-ok c m (term d n p) = go (eqM m n) (eqM-eq m n) (addT-ok c m p)
+  add_t-ok : (c : ℤ) (m : List ℕ) (p : Poly) → ev_p (add_t c m p) ≡ c *ℤ ev_m m +ℤ ev_p p
+  add_t-ok c m nil = refl
+  add_t-ok c m (term d n p) = go (eq_m m n) (eq_m-eq m n) (add_t-ok c m p)
     where
-      go : (t : Bool) → (T t → m ≡ n) → evP (addT c m p) ≡ c *ℤ evM m +ℤ evP p → evP (elim t [ true ↦ term (c +ℤ d) n p | false ↦ term d n (addT c m p) ]) ≡ c *ℤ evM m +ℤ evP (term d n p)
+      go : (t : Bool) → (T t → m ≡ n) → ev_p (add_t c m p) ≡ c *ℤ ev_m m +ℤ ev_p p → ev_p (elim t [ true ↦ term (c +ℤ d) n p | false ↦ term d n (add_t c m p) ]) ≡ c *ℤ ev_m m +ℤ ev_p (term d n p)
       go true e h = simp (e tt, +ℤ-*ℤ, +ℤ_assoc)
-      go false e h = ap (λ x. d *ℤ evM n +ℤ x) h ∙ +ℤ-left (d *ℤ evM n) (c *ℤ evM m) (evP p)
+      go false e h = ap (λ x. d *ℤ ev_m n +ℤ x) h ∙ +ℤ-left (d *ℤ ev_m n) (c *ℤ ev_m m) (ev_p p)
 
-  mac-ok : (c : ℤ) (m : List ℕ) (p q : Poly) → evP (mac c m p q) ≡ c *ℤ evM m *ℤ evP p +ℤ evP q
+  mac-ok : (c : ℤ) (m : List ℕ) (p q : Poly) → ev_p (mac c m p q) ≡ c *ℤ ev_m m *ℤ ev_p p +ℤ ev_p q
   mac-ok c m nil q = sym (simp (*ℤ-zero, +ℤ_idl))
-  mac-ok c m (term d n p) q = addT-ok (c *ℤ d) (mulM m n) (mac c m p q) ∙ simp (mulM-ok, mac-ok c m p q, *ℤ-+ℤ, *ℤ-assoc, *ℤ-left d, +ℤ_assoc)
+  mac-ok c m (term d n p) q = add_t-ok (c *ℤ d) (mul_m m n) (mac c m p q) ∙ simp (mul_m-ok, mac-ok c m p q, *ℤ-+ℤ, *ℤ-assoc, *ℤ-left d, +ℤ_assoc)
 
-  mulP-ok : (p q : Poly) → evP (mulP p q) ≡ evP p *ℤ evP q
-  mulP-ok nil q = sym (zero-*ℤ (evP q))
-  mulP-ok (term c m p) q = mac-ok c m q (mulP p q) ∙ ap (λ x. c *ℤ evM m *ℤ evP q +ℤ x) (mulP-ok p q) ∙ sym (+ℤ-*ℤ (c *ℤ evM m) (evP p) (evP q))
+  mul_p-ok : (p q : Poly) → ev_p (mul_p p q) ≡ ev_p p *ℤ ev_p q
+  mul_p-ok nil q = sym (zero-*ℤ (ev_p q))
+  mul_p-ok (term c m p) q = mac-ok c m q (mul_p p q) ∙ ap (λ x. c *ℤ ev_m m *ℤ ev_p q +ℤ x) (mul_p-ok p q) ∙ sym (+ℤ-*ℤ (c *ℤ ev_m m) (ev_p p) (ev_p q))
 
-  norm-ok : (e : Expr) → evP (norm e) ≡ eval e ρ
+  norm-ok : (e : Expr) → ev_p (norm e) ≡ eval e ρ
   norm-ok (var i) = simp (*ℤ-id, id-*ℤ, +ℤ_idr)
   norm-ok (con z) = simp (*ℤ-id, +ℤ_idr)
   norm-ok (neg a) = mac-ok (negsuc 0) [] (norm a) nil ∙ simp (minus-*ℤ, +ℤ_idr, norm-ok a)
   norm-ok (a ⊕ b) = mac-ok (pos 1) [] (norm b) (norm a) ∙ simp (id-*ℤ, norm-ok a, norm-ok b) (+ℤ_comm (eval b ρ) (eval a ρ))
   norm-ok (a ⊖ b) = mac-ok (negsuc 0) [] (norm b) (norm a) ∙ simp (minus-*ℤ, norm-ok a, norm-ok b) (+ℤ_comm (neg_ℤ (eval b ρ)) (eval a ρ))
-  norm-ok (a ⊗ b) = mulP-ok (norm a) (norm b) ∙ simp (norm-ok a, norm-ok b)
+  norm-ok (a ⊗ b) = mul_p-ok (norm a) (norm b) ∙ simp (norm-ok a, norm-ok b)
 
-  left-ok : (p : Poly) → evP (left p) ≡ evP p
+  left-ok : (p : Poly) → ev_p (left p) ≡ ev_p p
   left-ok nil = refl
-  left-ok (term c m p) = go (isZ c) (isZ-eq c) (left-ok p)
+  left-ok (term c m p) = go (is_z c) (is_z-eq c) (left-ok p)
     where
-      go : (b : Bool) → (T b → c ≡ pos 0) → evP (left p) ≡ evP p → evP (elim b [ true ↦ left p | false ↦ term c m (left p) ]) ≡ c *ℤ evM m +ℤ evP p
+      go : (b : Bool) → (T b → c ≡ pos 0) → ev_p (left p) ≡ ev_p p → ev_p (elim b [ true ↦ left p | false ↦ term c m (left p) ]) ≡ c *ℤ ev_m m +ℤ ev_p p
       go true f h = h ∙ sym (simp (f tt, zero-*ℤ, +ℤ_idl))
-      go false f h = ap (λ x. c *ℤ evM m +ℤ x) h
+      go false f h = ap (λ x. c *ℤ ev_m m +ℤ x) h
 
   zero_ok : (e : Expr) → left (norm e) ≡ nil → eval e ρ ≡ pos 0
-  zero_ok e h = sym (norm-ok e) ∙ sym (left-ok (norm e)) ∙ ap evP h
+  zero_ok e h = sym (norm-ok e) ∙ sym (left-ok (norm e)) ∙ ap ev_p h
 
 -- ---- what a user calls
 -- `l ≈ r` is an equation. `since k a b g` is g where a is b: what g says is to follow from k times that

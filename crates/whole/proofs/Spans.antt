@@ -11,23 +11,23 @@ use lib.Signed.{mag, lt_z, ◌≤ℤ◌, ◌<ℤ◌}
 use mir.Syntax.{w64}
 use mir.Val.{SFits, of_z, to_z}
 use mir.Facts.{to_z-of_z}
-use Rattle.whole.specs.Number.{Within, eqZ, lesser, greater}
+use Rattle.whole.specs.Number.{Within, eq_z, lesser, greater}
 use Rattle.whole.proofs.Linear.{up, dn, linear, opp, abs-parts, abs-le}
-use Rattle.whole.proofs.Orders.{ordered, eqZ-refl, eqZ-no}
+use Rattle.whole.proofs.Orders.{ordered, eq_z-refl, eq_z-no}
 
 -- ---- what a test for equality says of the numbers that the bits hold
 
-pub eq-eqZ : {x y : ℤ} → SFits w64 x → SFits w64 y → of_z w64 x ≡ of_z w64 y → eqZ x y ≡ true
-eq-eqZ {x} {y} f g e = rw (← (sym (to_z-of_z f) ∙ ap (to_z w64) e ∙ to_z-of_z g)) (eqZ-refl x)
+pub eq-eq_z : {x y : ℤ} → SFits w64 x → SFits w64 y → of_z w64 x ≡ of_z w64 y → eq_z x y ≡ true
+eq-eq_z {x} {y} f g e = rw (← (sym (to_z-of_z f) ∙ ap (to_z w64) e ∙ to_z-of_z g)) (eq_z-refl x)
 
-pub ne-eqZ : {x y : ℤ} → SFits w64 x → SFits w64 y → (of_z w64 x ≡ of_z w64 y → ⊥) → eqZ x y ≡ false
-ne-eqZ {x} {y} f g h = eqZ-no x y (λ e. h (ap (of_z w64) e))
+pub ne-eq_z : {x y : ℤ} → SFits w64 x → SFits w64 y → (of_z w64 x ≡ of_z w64 y → ⊥) → eq_z x y ≡ false
+ne-eq_z {x} {y} f g h = eq_z-no x y (λ e. h (ap (of_z w64) e))
 
-bits-by : {x y : ℤ} (t : Bool) → eqb (of_z w64 x) (of_z w64 y) ≡ t → SFits w64 x → SFits w64 y → t ≡ eqZ x y
-bits-by {x} {y} true e f g = sym (eq-eqZ f g (eqb-true (of_z w64 x) (of_z w64 y) e))
-bits-by {x} {y} false e f g = sym (ne-eqZ f g (eqb-false (of_z w64 x) (of_z w64 y) e))
+bits-by : {x y : ℤ} (t : Bool) → eqb (of_z w64 x) (of_z w64 y) ≡ t → SFits w64 x → SFits w64 y → t ≡ eq_z x y
+bits-by {x} {y} true e f g = sym (eq-eq_z f g (eqb-true (of_z w64 x) (of_z w64 y) e))
+bits-by {x} {y} false e f g = sym (ne-eq_z f g (eqb-false (of_z w64 x) (of_z w64 y) e))
 
-pub bits-eq : {x y : ℤ} → SFits w64 x → SFits w64 y → eqb (of_z w64 x) (of_z w64 y) ≡ eqZ x y
+pub bits-eq : {x y : ℤ} → SFits w64 x → SFits w64 y → eqb (of_z w64 x) (of_z w64 y) ≡ eq_z x y
 bits-eq {x} {y} f g = bits-by (eqb (of_z w64 x) (of_z w64 y)) refl f g
 
 -- an answer of two numbers, taken from their bits

@@ -73,8 +73,8 @@ pub there_and_back : (a b : ℤ) → a +ℤ (b -ℤ a) ≡ b
 there_and_back a b = omega (linear, sum a (b -ℤ a), diff b a)
 
 -- what is moved by the way from o to e, where it was at most m from o
-pub end-near : (x o e : ℤ) (k m : ℕ) → nat_abs (x -ℤ o) ≤ m → nat_abs e ≤ k → nat_abs (x +ℤ (e -ℤ o)) ≤ k + m
-end-near x o e k m far near =
+pub end_near : (x o e : ℤ) (k m : ℕ) → nat_abs (x -ℤ o) ≤ m → nat_abs e ≤ k → nat_abs (x +ℤ (e -ℤ o)) ≤ k + m
+end_near x o e k m far near =
     let d = diff e o in
     let s = sum x (e -ℤ o) in
     let away = diff x o in

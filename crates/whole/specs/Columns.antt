@@ -7,6 +7,6 @@ unfoldable pub between : ℤ → ℤ → ℤ → Bool
 between s e x = not (lt_z x s) && lt_z x e
 
 -- how many of the n whole numbers from x on pass the test p
-unfoldable pub countFrom : (ℤ → Bool) → ℤ → ℕ → ℕ
-countFrom p x zero = 0
-countFrom p x (suc n) = cond (p x) 1 0 + countFrom p (x +ℤ pos 1) n
+unfoldable pub count_from : (ℤ → Bool) → ℤ → ℕ → ℕ
+count_from p x zero = 0
+count_from p x (suc n) = cond (p x) 1 0 + count_from p (x +ℤ pos 1) n

@@ -4,8 +4,8 @@ use Rattle.whole.specs.declared.Division.{Division}
 use Rattle.whole.specs.declared.Division.TheVariants.{Exact, Half, Rounded}
 
 -- exact where d divides n, half way where twice the remainder is d, signs apart; else rounded
-unfoldable pub divisionOf : ℤ → ℤ → Division
-divisionOf n d =
+unfoldable pub division_of : ℤ → ℤ → Division
+division_of n d =
     let rest = nat_abs n % nat_abs d in
     cond (eqb rest 0) Exact (cond (eqb (2 * rest) (nat_abs d)) Half Rounded)
 
@@ -30,5 +30,5 @@ ComesOut Rounded n d = (Whole n d → ⊥) × (Halfway n d → ⊥)
 -- x is that one of two neighbours which lies further from zero
 pub record Further (below x : ℤ) : Type 0 where
   pub one : (x ≡ below) ⊎ (x ≡ below +ℤ pos 1)
-  pub than-below : nat_abs below ≤ nat_abs x
-  pub than-above : nat_abs (below +ℤ pos 1) ≤ nat_abs x
+  pub than_below : nat_abs below ≤ nat_abs x
+  pub than_above : nat_abs (below +ℤ pos 1) ≤ nat_abs x

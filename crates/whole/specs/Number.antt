@@ -2,11 +2,11 @@
 use Rattle.std.specs.Prelude.{Bool, false, cond, ℕ, ◌≤◌, eqb, leb, ℤ, pos, negsuc, nat_abs}
 use Rattle.std.specs.Int.Signed.{lt_z}
 
-abbrev pub eqZ : ℤ → ℤ → Bool
-eqZ (pos a) (pos b) = eqb a b
-eqZ (pos a) (negsuc b) = false
-eqZ (negsuc a) (pos b) = false
-eqZ (negsuc a) (negsuc b) = eqb a b
+abbrev pub eq_z : ℤ → ℤ → Bool
+eq_z (pos a) (pos b) = eqb a b
+eq_z (pos a) (negsuc b) = false
+eq_z (negsuc a) (pos b) = false
+eq_z (negsuc a) (negsuc b) = eqb a b
 
 unfoldable pub lesser : ℤ → ℤ → ℤ
 lesser a b = cond (lt_z b a) b a
@@ -19,5 +19,5 @@ pub record Within (z : ℤ) (n : ℕ) : Type 0 where
   pub bound : nat_abs z ≤ n
 
 -- the test for that
-unfoldable pub isWithin : ℕ → ℤ → Bool
-isWithin n z = leb (nat_abs z) n
+unfoldable pub is_within : ℕ → ℤ → Bool
+is_within n z = leb (nat_abs z) n

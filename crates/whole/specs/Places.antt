@@ -7,9 +7,9 @@ all_from test i zero = true
 all_from test i (suc left) = test i && all_from test (suc i) left
 
 -- one of `left` places from i on passes it
-unfoldable pub someFrom : (ℕ → Bool) → ℕ → ℕ → Bool
-someFrom test i zero = false
-someFrom test i (suc left) = test i || someFrom test (suc i) left
+unfoldable pub some_from : (ℕ → Bool) → ℕ → ℕ → Bool
+some_from test i zero = false
+some_from test i (suc left) = test i || some_from test (suc i) left
 
 -- a place below n that does
 pub record SomePlace (test : ℕ → Bool) (n : ℕ) : Type 0 where
@@ -18,13 +18,13 @@ pub record SomePlace (test : ℕ → Bool) (n : ℕ) : Type 0 where
   pub passes : test place ≡ true
 
 -- the first of `left` places from i on that fails it; the place behind them where none does
-unfoldable pub failsFrom : (ℕ → Bool) → ℕ → ℕ → ℕ
-failsFrom test i zero = i
-failsFrom test i (suc left) = cond (test i) (failsFrom test (suc i) left) i
+unfoldable pub fails_from : (ℕ → Bool) → ℕ → ℕ → ℕ
+fails_from test i zero = i
+fails_from test i (suc left) = cond (test i) (fails_from test (suc i) left) i
 
 -- how many from the first on pass it, where `passed` of those before i do: one more where all did and i does
-unfoldable pub passedWith : ℕ → ℕ → Bool → ℕ
-passedWith passed i t = cond (t && eqb passed i) (i + 1) passed
+unfoldable pub passed_with : ℕ → ℕ → Bool → ℕ
+passed_with passed i t = cond (t && eqb passed i) (i + 1) passed
 
 -- a place below n that fails it, and is the first
 pub record FirstFailing (test : ℕ → Bool) (n place : ℕ) : Type 0 where

@@ -1,9 +1,9 @@
 //! Functions on numbers alone, for the crates above.
 ghost use Rattle.std.specs.Prelude.{◌≡◌, ◌&&◌, ◌≢◌, ◌^◌, pos, nat_abs};
-ghost use Rattle.whole.specs.Number.{Within, isWithin};
-ghost use Rattle.whole.specs.Number.{lesser as lesserOf, greater as greater_of};
-ghost use Rattle.whole.specs.Divided.{divisionOf};
-ghost use Rattle.whole.specs.Rounded.{rounded as roundedOf};
+ghost use Rattle.whole.specs.Number.{Within, is_within};
+ghost use Rattle.whole.specs.Number.{lesser as lesser_of, greater as greater_of};
+ghost use Rattle.whole.specs.Divided.{division_of};
+ghost use Rattle.whole.specs.Rounded.{rounded as rounded_of};
 
 use crate::Division;
 
@@ -16,7 +16,7 @@ pub fn both(a: bool, b: bool) -> bool
 
 /// Whether `x` is from `-limit` to `limit`.
 pub fn within(x: i64, limit: u32) -> bool
-    ensures { result ≡ isWithin limit x }
+    ensures { result ≡ is_within limit x }
 {
     let most = limit as i64;
     if most < x {
@@ -30,7 +30,7 @@ pub fn within(x: i64, limit: u32) -> bool
 
 /// The lesser of two numbers.
 pub fn lesser(a: i64, b: i64) -> i64
-    ensures { result ≡ lesserOf a b }
+    ensures { result ≡ lesser_of a b }
 {
     if b < a { b } else { a }
 }
@@ -65,7 +65,7 @@ pub fn rounded(n: i64, d: i64) -> i64
     requires within { Within n (2 ^ 61) }
     requires within_2 { Within d (2 ^ 61) }
     requires d_nonzero { d ≢ pos 0 }
-    ensures { result ≡ roundedOf n d }
+    ensures { result ≡ rounded_of n d }
 {
     let half = magnitude(d) / 2;
     if n < 0 {
@@ -79,7 +79,7 @@ pub fn division(n: i64, d: i64) -> Division
     requires within { Within n (2 ^ 61) }
     requires within_2 { Within d (2 ^ 61) }
     requires d_nonzero { d ≢ pos 0 }
-    ensures { result ≡ divisionOf n d }
+    ensures { result ≡ division_of n d }
 {
     let rest = magnitude(n % d);
     if rest == 0 {

@@ -10,7 +10,7 @@ use mir.Syntax.{w64}
 use mir.Val.{to_z, of_z}
 use mir.Facts.{to_z-of_z}
 use Rattle.shapes.specs.Limits.{panel, Roomy}
-use Rattle.route.specs.Answers.{preparedOf}
+use Rattle.route.specs.Answers.{prepared_of}
 use Rattle.route.proofs.Chains.{Ready, ready, refused-with, row_made, list-made}
 use Rattle.bench_rows.proofs.Laws.{Left, left-all, left-more, left-none, nothing-drawn}
 use Rattle.bench_rows.proofs.knitbramble_rows_of_joins.Statement.{statement}
@@ -24,9 +24,9 @@ abbrev decreases-loop : tie.decreases-loop
 decreases-loop coordinates width closed rows out₀ route last₀ i₀ out last i = length rows - i
 
 roomy : Roomy panel
-roomy = record { point-room = lit≤ tt; corner-room = lit≤ tt }
+roomy = record { point_room = lit≤ tt; corner_room = lit≤ tt }
 
-told : (c : tie.After-prepare invariant-loop decreases-loop) → let a = c.before.before.args in c.prepare.result ≡ preparedOf panel a.closed a.coordinates.now (to_z w64 (of_z w64 a.width))
+told : (c : tie.After-prepare invariant-loop decreases-loop) → let a = c.before.before.args in c.prepare.result ≡ prepared_of panel a.closed a.coordinates.now (to_z w64 (of_z w64 a.width))
 told c = cc
 
 -- nothing refuses the route

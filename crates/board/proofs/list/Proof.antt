@@ -1,8 +1,8 @@
 use mathlib.Core.Path.{sym, ◌∙◌}
 use borrow.Author.Rules.{rules}
 use lib.Dec.{lit≤}
-use Rattle.shapes.specs.Limits.{cornerLimit}
-use Rattle.board.specs.Boards.{listed, listedTo}
+use Rattle.shapes.specs.Limits.{corner_limit}
+use Rattle.board.specs.Boards.{listed, listed_to}
 use Rattle.board.proofs.Sound.{sound-iff, sound_more}
 use Rattle.board.proofs.list.Statement.{statement}
 use Rattle.board.proofs.list.Tie as tie
@@ -10,16 +10,16 @@ use Rattle.board.proofs.list.Tie as tie
 list-sound-requires : tie.Need-list-sound-requires
 list-sound-requires c κs =
     let t = c.before in
-    sound_more ((sound-iff cornerLimit t.before.before.args.board).0 (sym t.before.is-sound.ensures ∙ t.if1.true)) (lit≤ tt)
+    sound_more ((sound-iff corner_limit t.before.before.args.board).0 (sym t.before.is-sound.ensures ∙ t.if1.true)) (lit≤ tt)
 
 returns : tie.Need-returns
-unfolding listed listedTo
+unfolding listed listed_to
 returns c =
     let t = c.before.before.before in
     rw (← t.before.is-sound.ensures, t.if1.true) c.before.list-sound.ensures
 
 returns-2 : tie.Need-returns-2
-unfolding listed listedTo
+unfolding listed listed_to
 returns-2 c = rw (← c.before.before.is-sound.ensures, c.before.if1.false) (search rules)
 
 pub list-spec : {M : Type 1} → statement M

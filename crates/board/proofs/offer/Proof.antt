@@ -1,25 +1,25 @@
 use mathlib.Core.Path.{◌≡◌, sym, ◌∙◌}
 use mathlib.Core.Bool.{◌&&◌}
 use borrow.Author.Rules.{rules}
-use Rattle.whole.specs.Number.{eqZ}
+use Rattle.whole.specs.Number.{eq_z}
 use Rattle.whole.proofs.Spans.{bits-eq}
 use Rattle.whole.proofs.Tests.{and_left}
-use Rattle.shapes.specs.Limits.{cornerLimit}
-use Rattle.board.specs.Boards.{isSound, offered}
+use Rattle.shapes.specs.Limits.{corner_limit}
+use Rattle.board.specs.Boards.{is_sound, offered}
 use Rattle.board.proofs.Sound.{sound-iff}
 use Rattle.board.proofs.offer.Statement.{statement}
 use Rattle.board.proofs.offer.Tie as tie
 
 -- what the first test says
 told : (c : tie.After-both) → let a = c.before.before.before.before.before.before.args in
-    c.both.result ≡ (isSound cornerLimit a.board && eqZ a.span.row a.board.row)
+    c.both.result ≡ (is_sound corner_limit a.board && eq_z a.span.row a.board.row)
 told c = let a = c.before.before.before.before.before.before.args in cc (bits-eq {x = a.span.row} {y = a.board.row} (search rules) (search rules))
 
 offer-sound-requires : tie.Need-offer-sound-requires
 offer-sound-requires c κs =
     let t = c.before.before in
     let a = t.before.before.before.before.before.before.before.args in
-    ((sound-iff cornerLimit a.board).0 (and_left (isSound cornerLimit a.board) (eqZ a.span.row a.board.row) (sym (told t.before) ∙ t.if1.true))).few
+    ((sound-iff corner_limit a.board).0 (and_left (is_sound corner_limit a.board) (eq_z a.span.row a.board.row) (sym (told t.before) ∙ t.if1.true))).few
 
 returns : tie.Need-returns
 unfolding offered

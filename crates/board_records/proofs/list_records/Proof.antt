@@ -40,7 +40,7 @@ use denote.Triple.Table.{entered, cited}
 use denote.Triple.Walked.{says, Stays, stay_none, gave_slice, walk_of, AllGo, Goes-none, Goes-gave_slice, Walks, ends_at, walked, walk_Meets}
 use denote.Exit.{yes}
 use denote.Signature.{plain}
-use Rattle.shapes.specs.Limits.{cornerLimit, boardRuns}
+use Rattle.shapes.specs.Limits.{corner_limit, board_runs}
 use Rattle.board.specs.declared.Run.{Run}
 use Rattle.board.specs.declared.Board.{Board}
 use Rattle.board.specs.declared.Listed.{Listed}
@@ -49,7 +49,7 @@ use Rattle.board.specs.contracts.Board as B
 use Rattle.board.proofs.Board.TheLaws as B'
 use Rattle.board.specs.contracts.Listed as S
 use Rattle.board.proofs.Listed.TheLaws as S'
-use Rattle.board_records.specs.Records.{bothListed, numbersTo, recordsOver, recordsTo}
+use Rattle.board_records.specs.Records.{both_listed, numbers_to, records_over, records_to}
 use Rattle.board_records.proofs.Laws.{room-copied, records-copied}
 use Rattle.board_records.proofs.Values.{held, head-is, constant}
 use Rattle.board_records.specs.contracts.inner.list_within as list-within
@@ -133,14 +133,14 @@ module _ {M : Type 1} {𝓤 : Ura M} (𝓛 : Logic 𝓤) (mem : Memory → SProp
 
   -- what each callee ensures
   abbrev Answered : Listed → List ℤ → Type 0
-  Answered r ws = (r ≡ bothListed cornerLimit d n m) × (ws ≡ numbersTo cornerLimit d x.now m)
+  Answered r ws = (r ≡ both_listed corner_limit d n m) × (ws ≡ numbers_to corner_limit d x.now m)
 
   abbrev Copied : Listed → List Run → Type 0
-  Copied r ws = ws ≡ recordsOver y.now (take r.count d.runs)
+  Copied r ws = ws ≡ records_over y.now (take r.count d.runs)
 
   promised : (r : Listed) (ws : List ℤ) (ws' : List Run) → Answered r ws → Copied r ws'
-      → (r ≡ bothListed cornerLimit d n m) × ((ws ≡ numbersTo cornerLimit d x.now m) × (ws' ≡ recordsTo cornerLimit d n y.now))
-  promised r ws ws' e e' = (e.0, (e.1, e' ∙ (ap (λ (z : Listed). recordsOver y.now (take z.count d.runs)) e.0 ∙ records-copied cornerLimit d n y.now)))
+      → (r ≡ both_listed corner_limit d n m) × ((ws ≡ numbers_to corner_limit d x.now m) × (ws' ≡ records_to corner_limit d n y.now))
+  promised r ws ws' e e' = (e.0, (e.1, e' ∙ (ap (λ (z : Listed). records_over y.now (take z.count d.runs)) e.0 ∙ records-copied corner_limit d n y.now)))
 
   exits : (r : Listed) (ws : List ℤ) (ws' : List Run) → Is S.the_row r (gave r ∷ []) → Answered r ws → Copied r ws' → length ws ≡ n → length ws' ≡ m
       → ent 𝓤 (⋆ 𝓛 (token ∷ token' ∷ ‵ (finally i64 x.name ws) ∷ ‵ (finally R y.name ws') ∷ [])) (Post (gave r))
@@ -154,21 +154,21 @@ module _ {M : Type 1} {𝓤 : Ura M} (𝓛 : Logic 𝓤) (mem : Memory → SProp
 
   -- what each callee's triple binds outside, and that the caller has what it asks
   abbrev to-list : (ListWithin 𝓛 mem run).Ghost
-  to-list = (((κ, tt), (q, tt), tt, (d, (cornerLimit, (m, (x, tt)))), (held d ∷ [], (vint w32 cornerLimit ∷ [], (vint w64 m ∷ [], (s ∷ [], tt))))), tt)
+  to-list = (((κ, tt), (q, tt), tt, (d, (corner_limit, (m, (x, tt)))), (held d ∷ [], (vint w32 corner_limit ∷ [], (vint w64 m ∷ [], (s ∷ [], tt))))), tt)
 
   goes-list : ent 𝓤 (sep 𝓤 (sep 𝓤 (A.lft κ q) (sem 𝓛 ftrue)) (sem 𝓛 Numbers)) ((ListWithin 𝓛 mem run).pre to-list)
   goes-list =
       qed 𝓛 (token ∷ ‵ Numbers ∷ []) ∵ says ! (lit≤ tt) $ frame ! $ nothing ! $ move ! (1 ∷ 0 ∷ []) $ fjoin ! $
-      owned ! usize (Is usize) (uint_Makes 𝓛 w64) m _ (refl, rm'.0) $ fjoin ! $ owned ! u32 (Is u32) (uint_Makes 𝓛 w32) cornerLimit _ (refl, lit< tt) $ fjoin ! $
+      owned ! usize (Is usize) (uint_Makes 𝓛 w64) m _ (refl, rm'.0) $ fjoin ! $ owned ! u32 (Is u32) (uint_Makes 𝓛 w32) corner_limit _ (refl, lit< tt) $ fjoin ! $
       owned ! B.the_row (Is B.the_row) (LL.makes B.the_type B'.the_plain 𝓛) d _ d-is $ fjoin ! $ done !
 
   abbrev to-copy : Listed → (CopyRuns 𝓛 mem run).Ghost
   to-copy r = (((κ', tt), (q', tt), tt, (d, (r.count, (y, tt))), (held d ∷ [], (vint w64 r.count ∷ [], (s' ∷ [], tt)))), tt)
 
-  room_of : (r : Listed) → r ≡ bothListed cornerLimit d n m → (r.count ≤ boardRuns) × (r.count ≤ m)
-  room_of r e = rw e (room-copied cornerLimit d n y.now)
+  room_of : (r : Listed) → r ≡ both_listed corner_limit d n m → (r.count ≤ board_runs) × (r.count ≤ m)
+  room_of r e = rw e (room-copied corner_limit d n y.now)
 
-  goes-copy : (r : Listed) → r ≡ bothListed cornerLimit d n m → r.count < 2 ^ 64 → ent 𝓤 (sep 𝓤 (sep 𝓤 (A.lft κ' q') (sem 𝓛 ftrue)) (sem 𝓛 Records)) ((CopyRuns 𝓛 mem run).pre (to-copy r))
+  goes-copy : (r : Listed) → r ≡ both_listed corner_limit d n m → r.count < 2 ^ 64 → ent 𝓤 (sep 𝓤 (sep 𝓤 (A.lft κ' q') (sem 𝓛 ftrue)) (sem 𝓛 Records)) ((CopyRuns 𝓛 mem run).pre (to-copy r))
   goes-copy r e fits =
       qed 𝓛 (token' ∷ ‵ Records ∷ []) ∵ says ! (room_of r e) $ frame ! $ nothing ! $ move ! (1 ∷ 0 ∷ []) $ fjoin ! $
       owned ! usize (Is usize) (uint_Makes 𝓛 w64) r.count _ (refl, fits) $ fjoin ! $ owned ! B.the_row (Is B.the_row) (LL.makes B.the_type B'.the_plain 𝓛) d _ d-is $ fjoin ! $ done !
@@ -189,8 +189,8 @@ module _ {M : Type 1} {𝓤 : Ura M} (𝓛 : Logic 𝓤) (mem : Memory → SProp
         -- `list_within`
         move ! (22 ∷ []) $ nothing ! $ move ! (1 ∷ 0 ∷ []) $ join ! $ move ! (0 ∷ 24 ∷ []) $ use2 𝓛 (raw ((ListWithin 𝓛 mem run).pre to-list)) goes-list $
         calls_at ! fm (ListWithin 𝓛 mem run) known-list to-list (and_then ! (load ! (from ! (stop !)) (look ! 19 refl)) (and_then ! (constant ! (record { fits = lit< tt })) (and_then ! (load ! (from ! (stop !)) (look ! 11 refl)) (and_then ! (load ! (from ! (stop !)) (look ! 7 refl)) (no_more !))))) (λ v.
-        use1 𝓛 (later (some (λ (r : Listed). (token ⊛ ‵ ((S.the_row).own_val r (v ∷ []))) ⊛ raw (ensured 𝓛 list-within.ended (list-within.clauses 𝓛 mem run) (κ, tt) (d, (cornerLimit, (m, (x, tt)))) tt r)))) (id⊢ 𝓤 _) $ await ! tt $ pick ! (λ r.
-        split ! $ move ! (1 ∷ []) $ use1 𝓛 (some (λ (ws : Unit {0} × (Unit {0} × (Unit {0} × (List ℤ × Unit {0})))). ‵ (lasts list-within.ended (κ, tt) (d, (cornerLimit, (m, (x, tt)))) ws) ⊛ raw (fact 𝓤 (Answered r ws.1.1.1.0)))) (id⊢ 𝓤 _) $ pick ! (λ ws.
+        use1 𝓛 (later (some (λ (r : Listed). (token ⊛ ‵ ((S.the_row).own_val r (v ∷ []))) ⊛ raw (ensured 𝓛 list-within.ended (list-within.clauses 𝓛 mem run) (κ, tt) (d, (corner_limit, (m, (x, tt)))) tt r)))) (id⊢ 𝓤 _) $ await ! tt $ pick ! (λ r.
+        split ! $ move ! (1 ∷ []) $ use1 𝓛 (some (λ (ws : Unit {0} × (Unit {0} × (Unit {0} × (List ℤ × Unit {0})))). ‵ (lasts list-within.ended (κ, tt) (d, (corner_limit, (m, (x, tt)))) ws) ⊛ raw (fact 𝓤 (Answered r ws.1.1.1.0)))) (id⊢ 𝓤 _) $ pick ! (λ ws.
         split ! $ move ! (1 ∷ []) $ heard ! (Answered r ws.1.1.1.0) (λ e. fsplit ! $ move ! (1 ∷ []) $ fsplit ! $ move ! (1 ∷ []) $ fsplit ! $ move ! (1 ∷ []) $ fsplit ! $ fsplit ! $ move ! (1 ∷ []) $ feq_l ! (λ l.
         -- [the last numbers; true, four times; the token and the result; _10; …]
         move ! (5 ∷ []) $ split ! $ move ! (3 ∷ 4 ∷ 5 ∷ 6 ∷ []) $ drop ! $ drop ! $ drop ! $ drop ! $ move ! (1 ∷ []) $

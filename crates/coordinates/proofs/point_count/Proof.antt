@@ -1,11 +1,11 @@
 -- `coordinates::point_count` meets its contract. Assumes nothing.
 use mathlib.Core.Path.{refl}
-use Rattle.coordinates.specs.Points.{pointCount}
+use Rattle.coordinates.specs.Points.{point_count}
 use Rattle.coordinates.proofs.point_count.Statement.{statement}
 use Rattle.coordinates.proofs.point_count.Tie as tie
 
 returns : tie.Need-returns
-unfolding pointCount
+unfolding point_count
 returns c = refl
 
 pub point-count-spec : {M : Type 1} → statement M

@@ -2,9 +2,9 @@ use mathlib.Core.Path.{◌≡◌, sym, ◌∙◌}
 use borrow.Author.Rules.{rules}
 use lib.Dec.{lit≤}
 use mir.Facts.{to_z-of_z}
-use Rattle.shapes.specs.Limits.{pointLimit}
-use Rattle.shapes.specs.Shape.{LineNear, isLineNear}
-use Rattle.shapes.specs.Strokes.{Thin, strokeRefusal}
+use Rattle.shapes.specs.Limits.{point_limit}
+use Rattle.shapes.specs.Shape.{LineNear, is_line_near}
+use Rattle.shapes.specs.Strokes.{Thin, stroke_refusal}
 use Rattle.shapes.proofs.Laws.{line-near-iff, line-near-more}
 use Rattle.shapes.proofs.Widths.{thin-back, stroke-none}
 use Rattle.parallels.proofs.Room.{thin-thick}
@@ -13,18 +13,18 @@ use Rattle.extents.proofs.extents.Statement.{statement}
 use Rattle.extents.proofs.extents.Tie as tie
 
 -- the refusal's number
-number : (c : tie.After-stroke-refusal) → let a = c.before.before.args in strokeRefusal a.width (isLineNear pointLimit a.line) ≡ c.stroke-refusal.result
+number : (c : tie.After-stroke-refusal) → let a = c.before.before.args in stroke_refusal a.width (is_line_near point_limit a.line) ≡ c.stroke-refusal.result
 number c = sym (rw (to_z-of_z c.before.before.ranges.width, c.before.is-line-near.ensures) at c.stroke-refusal.ensures)
 
 returns : tie.Need-returns
 returns c =
     let t = c.before in
     let a = t.before.before.before.args in
-    c.refused.ensures ∙ sym (by-refusal pointLimit a.line a.width a.offset (number t.before) t.if1.true)
+    c.refused.ensures ∙ sym (by-refusal point_limit a.line a.width a.offset (number t.before) t.if1.true)
 
 -- where it is 0, all is within its limits
-within : (c : tie.Else1) → let a = c.before.before.before.args in Thin a.width × LineNear pointLimit a.line
-within c = let a = c.before.before.before.args in (stroke-none a.width (line-near-iff pointLimit a.line)).0 (number c.before ∙ c.if1.false)
+within : (c : tie.Else1) → let a = c.before.before.before.args in Thin a.width × LineNear point_limit a.line
+within c = let a = c.before.before.before.args in (stroke-none a.width (line-near-iff point_limit a.line)).0 (number c.before ∙ c.if1.false)
 
 extents-requires : tie.Need-extents-requires
 extents-requires c κs = (line-near-more (within c).1 (lit≤ tt), thin-thick (thin-back (within c).0))
@@ -35,7 +35,7 @@ returns-2 c =
     let else = edges.before in
     let s = else.before.before.before in
     let a = s.args in
-    rw (edges.extents.ensures, to_z-of_z s.ranges.width) (sym (by-none pointLimit a.line a.width a.offset (number else.before ∙ else.if1.false)))
+    rw (edges.extents.ensures, to_z-of_z s.ranges.width) (sym (by-none point_limit a.line a.width a.offset (number else.before ∙ else.if1.false)))
 
 pub extents-spec : {M : Type 1} → statement M
 extents-spec =

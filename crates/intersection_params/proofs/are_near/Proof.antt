@@ -1,10 +1,10 @@
 use borrow.Author.Rules.{rules}
-use Rattle.intersection_params.specs.Crossing.{areLinesNear}
+use Rattle.intersection_params.specs.Crossing.{are_lines_near}
 use Rattle.intersection_params.proofs.are_near.Statement.{statement}
 use Rattle.intersection_params.proofs.are_near.Tie as tie
 
 returns : tie.Need-returns
-unfolding areLinesNear
+unfolding are_lines_near
 returns c = cc
 
 pub are-near-spec : {M : Type 1} → statement M

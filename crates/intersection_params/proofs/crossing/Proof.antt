@@ -1,13 +1,13 @@
 use mathlib.Core.Path.{◌≡◌, sym, ap, ◌∙◌}
 use mathlib.Core.Bool.{true}
 use borrow.Author.Rules.{rules}
-use Rattle.shapes.specs.Limits.{crossingLimit}
-use Rattle.intersection_params.specs.Crossing.{foundOf, areLinesNear, crossingValues, crossingAnswer}
+use Rattle.shapes.specs.Limits.{crossing_limit}
+use Rattle.intersection_params.specs.Crossing.{found_of, are_lines_near, crossing_values, crossing_answer}
 use Rattle.intersection_params.proofs.Room.{solution-roomy, near_first, near-second}
 use Rattle.intersection_params.proofs.crossing.Statement.{statement}
 use Rattle.intersection_params.proofs.crossing.Tie as tie
 
-inside : (c : tie.Then1) → areLinesNear crossingLimit c.before.before.args.first c.before.before.args.second ≡ true
+inside : (c : tie.Then1) → are_lines_near crossing_limit c.before.before.args.first c.before.before.args.second ≡ true
 inside c = sym c.before.are-near.ensures ∙ c.if1.true
 
 solve-requires : tie.Need-solve-requires
@@ -21,11 +21,11 @@ found-requires c κs =
     rw c.solve.ensures (solution-roomy (near_first a.first a.second (inside c.before)) (near-second a.first a.second (inside c.before)))
 
 returns : tie.Need-returns
-unfolding crossingAnswer
-returns c = ap crossingValues (c.found.ensures ∙ ap foundOf c.before.solve.ensures) ∙ simp (inside c.before.before)
+unfolding crossing_answer
+returns c = ap crossing_values (c.found.ensures ∙ ap found_of c.before.solve.ensures) ∙ simp (inside c.before.before)
 
 returns-2 : tie.Need-returns-2
-unfolding crossingAnswer
+unfolding crossing_answer
 returns-2 c = simp (sym c.before.are-near.ensures ∙ c.if1.false)
 
 pub crossing-spec : {M : Type 1} → statement M

@@ -1,13 +1,13 @@
 use mathlib.Core.Path.{◌≡◌, sym, ◌∙◌}
 use mathlib.Core.Bool.{true}
 use borrow.Author.Rules.{rules}
-use Rattle.shapes.specs.Limits.{crossingLimit}
-use Rattle.intersection_params.specs.Crossing.{areLinesNear, nearlyAnswer}
+use Rattle.shapes.specs.Limits.{crossing_limit}
+use Rattle.intersection_params.specs.Crossing.{are_lines_near, nearly_answer}
 use Rattle.intersection_params.proofs.Room.{near_first, near-second}
 use Rattle.intersection_params.proofs.nearly_colinear.Statement.{statement}
 use Rattle.intersection_params.proofs.nearly_colinear.Tie as tie
 
-inside : (c : tie.Then1) → areLinesNear crossingLimit c.before.before.args.first c.before.before.args.second ≡ true
+inside : (c : tie.Then1) → are_lines_near crossing_limit c.before.before.args.first c.before.before.args.second ≡ true
 inside c = sym c.before.are-near.ensures ∙ c.if1.true
 
 nearly-colinear-requires : tie.Need-nearly-colinear-requires
@@ -16,11 +16,11 @@ nearly-colinear-requires c κs =
     (near_first a.first a.second (inside c), near-second a.first a.second (inside c))
 
 returns : tie.Need-returns
-unfolding nearlyAnswer
+unfolding nearly_answer
 returns c = simp (c.nearly-colinear.ensures, inside c.before)
 
 returns-2 : tie.Need-returns-2
-unfolding nearlyAnswer
+unfolding nearly_answer
 returns-2 c = simp (sym c.before.are-near.ensures ∙ c.if1.false)
 
 pub nearly-colinear-spec : {M : Type 1} → statement M

@@ -3,42 +3,42 @@ use mathlib.Core.Bool.{Bool}
 use borrow.Author.Rules.{rules}
 use lib.Dec.{lit≤}
 use mir.Facts.{to_z-of_z}
-use Rattle.shapes.specs.Limits.{pointLimit, cornerLimit}
-use Rattle.shapes.specs.Shape.{line_of, isLineNear}
-use Rattle.shapes.specs.Strokes.{strokeRefusal}
+use Rattle.shapes.specs.Limits.{point_limit, corner_limit}
+use Rattle.shapes.specs.Shape.{line_of, is_line_near}
+use Rattle.shapes.specs.Strokes.{stroke_refusal}
 use Rattle.shapes.proofs.Laws.{near-more, true-line-near}
 use Rattle.shapes.proofs.Widths.{thin-back}
-use Rattle.line_join.specs.Answers.{endAnswer}
+use Rattle.line_join.specs.Answers.{end_answer}
 use Rattle.line_join.proofs.Answers.{admitted, answer-made, answer-refused}
 use Rattle.line_join.proofs.end.Statement.{statement}
 use Rattle.line_join.proofs.end.Tie as tie
 
 -- whether the points are inside the limit, and what the input is refused with
 abbrev near : tie.Start → Bool
-near s = isLineNear pointLimit (line_of s.args.a s.args.b)
+near s = is_line_near point_limit (line_of s.args.a s.args.b)
 
-refusal : (c : tie.After-stroke-refusal) → c.stroke-refusal.result ≡ strokeRefusal c.before.before.args.width (near c.before.before)
+refusal : (c : tie.After-stroke-refusal) → c.stroke-refusal.result ≡ stroke_refusal c.before.before.args.width (near c.before.before)
 refusal c = cc (to_z-of_z c.before.before.ranges.width)
 
 end-requires : tie.Need-end-requires
 end-requires c κs =
     let s = c.before.before.before in
-    let inside = admitted cornerLimit s.args.width (near s) (refusal c.before) c.if1.true in
-    let line = true-line-near pointLimit (line_of s.args.a s.args.b) inside.1 in
-    (near-more line.start-near (lit≤ tt), (near-more line.end-near (lit≤ tt), thin-back inside.0))
+    let inside = admitted corner_limit s.args.width (near s) (refusal c.before) c.if1.true in
+    let line = true-line-near point_limit (line_of s.args.a s.args.b) inside.1 in
+    (near-more line.start_near (lit≤ tt), (near-more line.end_near (lit≤ tt), thin-back inside.0))
 
 returns : tie.Need-returns
-unfolding endAnswer
+unfolding end_answer
 returns c =
     let t = c.before.before.before in
     let s = t.before.before.before in
-    answer-made cornerLimit s.args.width (near s) (refusal t.before) _ t.if1.true (cc (to_z-of_z s.ranges.width))
+    answer-made corner_limit s.args.width (near s) (refusal t.before) _ t.if1.true (cc (to_z-of_z s.ranges.width))
 
 returns-2 : tie.Need-returns-2
-unfolding endAnswer
+unfolding end_answer
 returns-2 c =
     let s = c.before.before.before in
-    answer-refused cornerLimit s.args.width (near s) (refusal c.before) _ c.if1.false
+    answer-refused corner_limit s.args.width (near s) (refusal c.before) _ c.if1.false
 
 pub end-spec : {M : Type 1} → statement M
 end-spec = tie.close (tie.spec (λ c κs. search rules) (λ c κs. search rules) end-requires (λ c κs. search rules) (λ c κs. search rules) returns returns-2)

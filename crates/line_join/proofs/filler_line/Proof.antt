@@ -1,15 +1,15 @@
 use borrow.Author.Rules.{rules}
 use mathlib.Core.Path.{sym, ap, ◌∙◌}
-use Rattle.line_join.specs.Answers.{fillerValues, fillerAnswer}
+use Rattle.line_join.specs.Answers.{filler_values, filler_answer}
 use Rattle.line_join.proofs.filler_line.Statement.{statement}
 use Rattle.line_join.proofs.filler_line.Tie as tie
 
 returns : tie.Need-returns
-unfolding fillerAnswer
-returns c = ap fillerValues c.filler.ensures ∙ simp (sym c.before.before.is-join-near.ensures ∙ c.before.if1.true)
+unfolding filler_answer
+returns c = ap filler_values c.filler.ensures ∙ simp (sym c.before.before.is-join-near.ensures ∙ c.before.if1.true)
 
 returns-2 : tie.Need-returns-2
-unfolding fillerAnswer
+unfolding filler_answer
 returns-2 c = simp (sym c.before.is-join-near.ensures ∙ c.if1.false)
 
 pub filler-line-spec : {M : Type 1} → statement M

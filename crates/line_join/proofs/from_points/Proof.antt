@@ -4,43 +4,43 @@ use borrow.Author.Rules.{rules}
 use lib.Dec.{lit≤}
 use mir.Facts.{to_z-of_z}
 use Rattle.whole.proofs.Tests.{and-iff}
-use Rattle.shapes.specs.Limits.{pointLimit, cornerLimit}
-use Rattle.shapes.specs.Shape.{line_of, isNear, isLineNear}
-use Rattle.shapes.specs.Strokes.{strokeRefusal}
+use Rattle.shapes.specs.Limits.{point_limit, corner_limit}
+use Rattle.shapes.specs.Shape.{line_of, is_near, is_line_near}
+use Rattle.shapes.specs.Strokes.{stroke_refusal}
 use Rattle.shapes.proofs.Laws.{near-more, near-iff, line-near-iff}
 use Rattle.shapes.proofs.Widths.{thin-back}
-use Rattle.line_join.specs.Answers.{pointsAnswer}
+use Rattle.line_join.specs.Answers.{points_answer}
 use Rattle.line_join.proofs.Answers.{admitted, answer-made, answer-refused}
 use Rattle.line_join.proofs.from_points.Statement.{statement}
 use Rattle.line_join.proofs.from_points.Tie as tie
 
 -- whether the points are inside the limit, and what the input is refused with
 abbrev near : tie.Start → Bool
-near s = isLineNear pointLimit (line_of s.args.a s.args.b) && isNear pointLimit s.args.c
+near s = is_line_near point_limit (line_of s.args.a s.args.b) && is_near point_limit s.args.c
 
-refusal : (c : tie.After-stroke-refusal) → c.stroke-refusal.result ≡ strokeRefusal c.before.before.before.before.args.width (near c.before.before.before.before)
+refusal : (c : tie.After-stroke-refusal) → c.stroke-refusal.result ≡ stroke_refusal c.before.before.before.before.args.width (near c.before.before.before.before)
 refusal c = cc (to_z-of_z c.before.before.before.before.ranges.width)
 
 from-points-requires : tie.Need-from-points-requires
 from-points-requires c κs =
     let s = c.before.before.before.before.before in
     let line = line_of s.args.a s.args.b in
-    let inside = admitted cornerLimit s.args.width (near s) (refusal c.before) c.if1.true in
-    let all = (and-iff (isLineNear pointLimit line) (isNear pointLimit s.args.c) (line-near-iff pointLimit line) (near-iff pointLimit s.args.c)).0 inside.1 in
-    (near-more all.0.start-near (lit≤ tt), (near-more all.0.end-near (lit≤ tt), (near-more all.1 (lit≤ tt), thin-back inside.0)))
+    let inside = admitted corner_limit s.args.width (near s) (refusal c.before) c.if1.true in
+    let all = (and-iff (is_line_near point_limit line) (is_near point_limit s.args.c) (line-near-iff point_limit line) (near-iff point_limit s.args.c)).0 inside.1 in
+    (near-more all.0.start_near (lit≤ tt), (near-more all.0.end_near (lit≤ tt), (near-more all.1 (lit≤ tt), thin-back inside.0)))
 
 returns : tie.Need-returns
-unfolding pointsAnswer
+unfolding points_answer
 returns c =
     let t = c.before.before.before in
     let s = t.before.before.before.before.before in
-    answer-made cornerLimit s.args.width (near s) (refusal t.before) _ t.if1.true (cc (to_z-of_z s.ranges.width))
+    answer-made corner_limit s.args.width (near s) (refusal t.before) _ t.if1.true (cc (to_z-of_z s.ranges.width))
 
 returns-2 : tie.Need-returns-2
-unfolding pointsAnswer
+unfolding points_answer
 returns-2 c =
     let s = c.before.before.before.before.before in
-    answer-refused cornerLimit s.args.width (near s) (refusal c.before) _ c.if1.false
+    answer-refused corner_limit s.args.width (near s) (refusal c.before) _ c.if1.false
 
 pub from-points-spec : {M : Type 1} → statement M
 from-points-spec =

@@ -1,10 +1,10 @@
 use borrow.Author.Rules.{rules}
-use Rattle.linear_equation.specs.Equation.{areInside}
+use Rattle.linear_equation.specs.Equation.{are_inside}
 use Rattle.linear_equation.proofs.are_near.Statement.{statement}
 use Rattle.linear_equation.proofs.are_near.Tie as tie
 
 returns : tie.Need-returns
-unfolding areInside
+unfolding are_inside
 returns c = rw (c.both.ensures, c.before.before.is-line-near.ensures, c.before.is-near.ensures)
 
 pub are-near-spec : {M : Type 1} → statement M

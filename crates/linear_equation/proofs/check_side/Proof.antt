@@ -1,13 +1,13 @@
 use mathlib.Core.Path.{◌≡◌, sym, ◌∙◌, ap}
 use mathlib.Core.Bool.{true}
 use borrow.Author.Rules.{rules}
-use Rattle.shapes.specs.Limits.{crossingLimit}
-use Rattle.linear_equation.specs.Equation.{areInside, isOnSide, side_answer}
+use Rattle.shapes.specs.Limits.{crossing_limit}
+use Rattle.linear_equation.specs.Equation.{are_inside, is_on_side, side_answer}
 use Rattle.linear_equation.proofs.Laws.{tame, near-line, near-point}
 use Rattle.linear_equation.proofs.check_side.Statement.{statement}
 use Rattle.linear_equation.proofs.check_side.Tie as tie
 
-inside : (c : tie.Then1) → areInside crossingLimit c.before.before.args.line c.before.before.args.point ≡ true
+inside : (c : tie.Then1) → are_inside crossing_limit c.before.before.args.line c.before.before.args.point ≡ true
 inside c = sym c.before.are-near.ensures ∙ c.if1.true
 
 from-line-requires : tie.Need-from-line-requires
@@ -24,7 +24,7 @@ unfolding side_answer
 returns c =
     let f = c.before in
     let a = f.before.before.before.args in
-    simp (inside f.before, c.check-side.ensures ∙ ap (λ e. isOnSide e a.point a.side) f.from-line.ensures)
+    simp (inside f.before, c.check-side.ensures ∙ ap (λ e. is_on_side e a.point a.side) f.from-line.ensures)
 
 returns-2 : tie.Need-returns-2
 unfolding side_answer

@@ -3,13 +3,13 @@ use mathlib.Core.Bool.{true}
 use borrow.Author.Rules.{rules}
 use mir.Facts.{to_z-of_z}
 use mir.Syntax.{w64}
-use Rattle.shapes.specs.Limits.{crossingLimit}
-use Rattle.linear_equation.specs.Equation.{areInside, distance_of, distanceAnswer}
+use Rattle.shapes.specs.Limits.{crossing_limit}
+use Rattle.linear_equation.specs.Equation.{are_inside, distance_of, distance_answer}
 use Rattle.linear_equation.proofs.Laws.{tame, near-line, near-point}
 use Rattle.linear_equation.proofs.distance.Statement.{statement}
 use Rattle.linear_equation.proofs.distance.Tie as tie
 
-inside : (c : tie.Then1) → areInside crossingLimit c.before.before.args.line c.before.before.args.point ≡ true
+inside : (c : tie.Then1) → are_inside crossing_limit c.before.before.args.line c.before.before.args.point ≡ true
 inside c = sym c.before.are-near.ensures ∙ c.if1.true
 
 from-line-requires : tie.Need-from-line-requires
@@ -22,14 +22,14 @@ distance-requires c κs =
     (rw c.from-line.ensures (tame (near-line a.line a.point e)), near-point a.line a.point e)
 
 returns : tie.Need-returns
-unfolding distanceAnswer
+unfolding distance_answer
 returns c =
     let f = c.before in
     let p = f.before.before.before.args.point in
     simp (inside f.before, to_z-of_z {w = w64} {z = c.distance.result} (search rules) ∙ c.distance.ensures ∙ ap (λ e. distance_of e p) f.from-line.ensures)
 
 returns-2 : tie.Need-returns-2
-unfolding distanceAnswer
+unfolding distance_answer
 returns-2 c = simp (sym c.before.are-near.ensures ∙ c.if1.false)
 
 pub distance-spec : {M : Type 1} → statement M

@@ -4,17 +4,17 @@ use borrow.Author.Rules.{rules}
 use lib.Dec.{lit≤}
 use mir.Facts.{to_z-of_z}
 use Rattle.shapes.specs.Limits.{panel, Roomy}
-use Rattle.route.specs.Rows.{rowsRefusal}
-use Rattle.route.specs.Answers.{preparedOf}
+use Rattle.route.specs.Rows.{rows_refusal}
+use Rattle.route.specs.Answers.{prepared_of}
 use Rattle.route.proofs.Ranges.{rows-near}
 use Rattle.route.proofs.Chains.{Ready, ready, refused-with, named-with, verdict-stopped, verdict-made}
 use Rattle.route.proofs.refusal.Statement.{statement}
 use Rattle.route.proofs.refusal.Tie as tie
 
 roomy : Roomy panel
-roomy = record { point-room = lit≤ tt; corner-room = lit≤ tt }
+roomy = record { point_room = lit≤ tt; corner_room = lit≤ tt }
 
-told : (c : tie.After-prepare) → let a = c.before.before.args in c.prepare.result ≡ preparedOf panel a.closed a.coordinates.now a.width
+told : (c : tie.After-prepare) → let a = c.before.before.args in c.prepare.result ≡ prepared_of panel a.closed a.coordinates.now a.width
 told c = cc (to_z-of_z c.before.before.ranges.width)
 
 -- nothing refuses the route
@@ -35,7 +35,7 @@ returns-2 : tie.Need-returns-2
 returns-2 c =
     let p = c.before.before.before.before in
     let a = p.before.before.args in
-    verdict-made panel a.closed a.coordinates.now a.width (free c.before.before) (c.rows-refusal.ensures ∙ ap (rowsRefusal p.prepare.result.joins) c.before.rows_of_lem.ensures)
+    verdict-made panel a.closed a.coordinates.now a.width (free c.before.before) (c.rows-refusal.ensures ∙ ap (rows_refusal p.prepare.result.joins) c.before.rows_of_lem.ensures)
 
 pub refusal-spec : {M : Type 1} → statement M
 refusal-spec = tie.close (tie.spec (λ c κs. search rules) (λ c κs. rw c.panel.ensures roomy) returns (λ c κs. (free c).kept) rows-refusal-requires returns-2)

@@ -5,15 +5,15 @@ use lib.Dec.{lit≤}
 use mir.Facts.{to_z-of_z}
 use Rattle.shapes.specs.Limits.{panel, Roomy}
 use lib.ListN.{length}
-use Rattle.route.specs.Answers.{preparedOf, answerOn, listOn}
+use Rattle.route.specs.Answers.{prepared_of, answer_on, list_on}
 use Rattle.route.proofs.Chains.{Ready, ready, refused-with, named-with, row-stopped, row_made, list-made}
 use Rattle.route.proofs.row.Statement.{statement}
 use Rattle.route.proofs.row.Tie as tie
 
 roomy : Roomy panel
-roomy = record { point-room = lit≤ tt; corner-room = lit≤ tt }
+roomy = record { point_room = lit≤ tt; corner_room = lit≤ tt }
 
-told : (c : tie.After-prepare) → let a = c.before.before.args in c.prepare.result ≡ preparedOf panel a.closed a.coordinates.now a.width
+told : (c : tie.After-prepare) → let a = c.before.before.args in c.prepare.result ≡ prepared_of panel a.closed a.coordinates.now a.width
 told c = cc (to_z-of_z c.before.before.ranges.width)
 
 -- nothing refuses the route
@@ -37,8 +37,8 @@ returns-2 c =
     let joins = p.prepare.result.joins in
     let f = free e in
     let row = to_z-of_z s.ranges.row in (
-      r.row_of.ensures.0 ∙ ap (λ y. answerOn panel.corner joins y (length a.out.now)) row ∙ row_made panel a.closed a.coordinates.now a.width f a.row (length a.out.now),
-      r.row_of.ensures.1 ∙ ap (λ y. listOn panel.corner joins y a.out.now) row ∙ list-made panel a.closed a.coordinates.now a.width f a.row a.out.now,
+      r.row_of.ensures.0 ∙ ap (λ y. answer_on panel.corner joins y (length a.out.now)) row ∙ row_made panel a.closed a.coordinates.now a.width f a.row (length a.out.now),
+      r.row_of.ensures.1 ∙ ap (λ y. list_on panel.corner joins y a.out.now) row ∙ list-made panel a.closed a.coordinates.now a.width f a.row a.out.now,
     )
 
 pub row-spec : {M : Type 1} → statement M

@@ -4,15 +4,15 @@ use borrow.Author.Rules.{rules}
 use lib.Dec.{lit≤}
 use mir.Facts.{to_z-of_z}
 use Rattle.shapes.specs.Limits.{panel, Roomy}
-use Rattle.route.specs.Answers.{preparedOf}
+use Rattle.route.specs.Answers.{prepared_of}
 use Rattle.route.proofs.Chains.{Ready, ready, refused-with, named-with, rows-stopped, rows_made}
 use Rattle.route.proofs.rows.Statement.{statement}
 use Rattle.route.proofs.rows.Tie as tie
 
 roomy : Roomy panel
-roomy = record { point-room = lit≤ tt; corner-room = lit≤ tt }
+roomy = record { point_room = lit≤ tt; corner_room = lit≤ tt }
 
-told : (c : tie.After-prepare) → let a = c.before.before.args in c.prepare.result ≡ preparedOf panel a.closed a.coordinates.now a.width
+told : (c : tie.After-prepare) → let a = c.before.before.args in c.prepare.result ≡ prepared_of panel a.closed a.coordinates.now a.width
 told c = cc (to_z-of_z c.before.before.ranges.width)
 
 -- nothing refuses the route

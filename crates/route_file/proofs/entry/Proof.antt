@@ -6,7 +6,7 @@ use native.Mathlib.Omega.{arith}
 use borrow.Author.Tests.{not-true, not-false}
 use lib.IntN.{pos}
 use Rattle.whole.proofs.Machine.{Hold, hold}
-use Rattle.route_file.specs.Form.{isFormed, Formed}
+use Rattle.route_file.specs.Form.{is_formed, Formed}
 use Rattle.route_file.proofs.Laws.{true-formed}
 use Rattle.route_file.proofs.Answering.{entry-nine, entry-none, entry_found}
 use Rattle.route_file.proofs.entry.Statement.{statement}
@@ -18,7 +18,7 @@ is-formed-requires c κs = search rules
 returns : tie.Need-returns
 returns c = entry-nine _ _ (sym c.before.is-formed.ensures ∙ not-true _ c.if1.true)
 
-passed : (c : tie.Else1) → isFormed c.before.before.before.args.file.now ≡ true
+passed : (c : tie.Else1) → is_formed c.before.before.before.args.file.now ≡ true
 passed c = sym c.before.is-formed.ensures ∙ not-false _ c.if1.false
 
 formed : (c : tie.Else1) → Formed c.before.before.before.args.file.now

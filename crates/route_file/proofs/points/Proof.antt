@@ -6,8 +6,8 @@ use Prim.Native.Nat.{◌*◌, ◌<◌}
 use native.Mathlib.Omega.{arith}
 use borrow.Author.Tests.{not-true, not-false}
 use lib.Seq.{sets}
-use Rattle.route_file.specs.Numbers.{signedFrom}
-use Rattle.route_file.specs.Form.{routeCount, entryAt, isFormed, Formed}
+use Rattle.route_file.specs.Numbers.{signed_from}
+use Rattle.route_file.specs.Form.{route_count, entry_at, is_formed, Formed}
 use Rattle.route_file.proofs.Laws.{true-formed}
 use Rattle.route_file.proofs.Answering.{answer, points-nine, points_none, points-short, points-all}
 use Rattle.route_file.proofs.points.Statement.{statement}
@@ -21,7 +21,7 @@ returns c =
     let a = c.before.before.before.args in
     points-nine a.file.now a.k a.out.now (sym c.before.is-formed.ensures ∙ not-true _ c.if1.true)
 
-passed : (c : tie.Else1) → isFormed c.before.before.before.args.file.now ≡ true
+passed : (c : tie.Else1) → is_formed c.before.before.before.args.file.now ≡ true
 passed c = sym c.before.is-formed.ensures ∙ not-false _ c.if1.false
 
 formed : (c : tie.Else1) → Formed c.before.before.before.args.file.now
@@ -39,11 +39,11 @@ entry-at-requires : tie.Need-entry-at-requires
 entry-at-requires c κs = omega (arith, (formed c.before.before).entries, c.before.count_of.ensures, c.if2.false)
 
 -- the file has the route
-known : (c : tie.Else2) → c.before.before.before.before.before.args.k < routeCount c.before.before.before.before.before.args.file.now
+known : (c : tie.Else2) → c.before.before.before.before.before.args.k < route_count c.before.before.before.before.before.args.file.now
 known c = rw c.before.count_of.ensures at c.if2.false
 
 -- the points that the entry says
-said : (c : tie.After-entry-at) → let a = c.before.before.before.before.before.before.args in c.entry_at.result.points ≡ (entryAt a.file.now a.k).points
+said : (c : tie.After-entry-at) → let a = c.before.before.before.before.before.before.args in c.entry_at.result.points ≡ (entry_at a.file.now a.k).points
 said c = ap (λ e. e.points) c.entry_at.ensures
 
 cast-count : tie.Need-overflow-cast-count
@@ -77,7 +77,7 @@ returns-4 c =
     let a = e.before.before.before.before.before.before.args in
     let all = points-all a.file.now a.k a.out.now (passed e.before.before.before) (known e.before) (omega (arith, said e, w.before.before.before.if3.false)) in (
       ap (λ m. answer 0 (2 * m.points)) e.entry_at.ensures ∙ all.0,
-      w.write-numbers.ensures ∙ (ap (λ m. sets a.out.now 0 (signedFrom a.file.now m.offset (2 * m.points))) e.entry_at.ensures ∙ all.1),
+      w.write-numbers.ensures ∙ (ap (λ m. sets a.out.now 0 (signed_from a.file.now m.offset (2 * m.points))) e.entry_at.ensures ∙ all.1),
     )
 
 pub points-spec : {M : Type 1} → statement M

@@ -3,8 +3,8 @@ use borrow.Author.Rules.{rules}
 use mathlib.Core.Path.{◌≡◌, sym, ◌∙◌}
 use mathlib.Core.Bool.{true}
 use borrow.Author.Tests.{not-true, not-false}
-use Rattle.route_file.specs.Form.{isFormed}
-use Rattle.route_file.specs.Answers.{formRefusal, counted}
+use Rattle.route_file.specs.Form.{is_formed}
+use Rattle.route_file.specs.Answers.{form_refusal, counted}
 use Rattle.route_file.proofs.Laws.{true-formed}
 use Rattle.route_file.proofs.route_count.Statement.{statement}
 use Rattle.route_file.proofs.route_count.Tie as tie
@@ -13,17 +13,17 @@ is-formed-requires : tie.Need-is-formed-requires
 is-formed-requires c κs = search rules
 
 returns : tie.Need-returns
-unfolding counted formRefusal
+unfolding counted form_refusal
 returns c = rw (sym c.before.is-formed.ensures ∙ not-true _ c.if1.true)
 
-passed : (c : tie.Else1) → isFormed c.before.before.before.args.file.now ≡ true
+passed : (c : tie.Else1) → is_formed c.before.before.before.args.file.now ≡ true
 passed c = sym c.before.is-formed.ensures ∙ not-false _ c.if1.false
 
 count-of-requires : tie.Need-count-of-requires
 count-of-requires c κs = (true-formed _ (passed c)).header
 
 returns-2 : tie.Need-returns-2
-unfolding counted formRefusal
+unfolding counted form_refusal
 returns-2 c = rw (passed c.before, c.count_of.ensures)
 
 pub route-count-spec : {M : Type 1} → statement M

@@ -6,13 +6,13 @@ use lib.Dec.{lit≤}
 use mir.Facts.{to_z-of_z}
 use mir.Syntax.{w64}
 use Rattle.shapes.specs.Limits.{panel, Roomy}
-use Rattle.row_text.specs.Pixels.{allPixels}
+use Rattle.row_text.specs.Pixels.{all_pixels}
 use Rattle.row_text.proofs.Laws.{file-refused, file-drawn, file-formed}
 use Rattle.row_text.proofs.print_file.Statement.{statement}
 use Rattle.row_text.proofs.print_file.Tie as tie
 
 roomy : Roomy panel
-roomy = record { point-room = lit≤ tt; corner-room = lit≤ tt }
+roomy = record { point_room = lit≤ tt; corner_room = lit≤ tt }
 
 returns : tie.Need-returns
 returns c = let r = c.before.before.before.before.before in file-refused r.before.before.args.file.now r.route-count.ensures panel c.before.before.before.if1.true
@@ -23,7 +23,7 @@ print-routes-requires c κs =
     let r = e.before.before in
     (file-formed r.before.before.args.file.now r.route-count.ensures (omega (arith, e.if1.false)), rw c.panel.ensures roomy)
 
-drawn : (c : tie.After-print-routes) → c.print-routes.result ≡ allPixels panel c.before.before.before.before.before.before.args.file.now
+drawn : (c : tie.After-print-routes) → c.print-routes.result ≡ all_pixels panel c.before.before.before.before.before.before.args.file.now
 drawn c = cc
 
 returns-2 : tie.Need-returns-2

@@ -1,23 +1,23 @@
 use mathlib.Core.Path.{◌≡◌, sym, ◌∙◌}
 use borrow.Author.Rules.{rules}
 use mir.Facts.{to_z-of_z}
-use Rattle.whole.specs.Number.{isWithin}
-use Rattle.shapes.specs.Limits.{cornerLimit}
-use Rattle.scanline.specs.Answers.{freshAnswer}
+use Rattle.whole.specs.Number.{is_within}
+use Rattle.shapes.specs.Limits.{corner_limit}
+use Rattle.scanline.specs.Answers.{fresh_answer}
 use Rattle.scanline.proofs.fresh.Statement.{statement}
 use Rattle.scanline.proofs.fresh.Tie as tie
 
-tested : (c : tie.After-within) → c.within.result ≡ isWithin cornerLimit c.before.args.row
+tested : (c : tie.After-within) → c.within.result ≡ is_within corner_limit c.before.args.row
 tested c = cc (to_z-of_z c.before.ranges.row)
 
 returns : tie.Need-returns
-unfolding freshAnswer
+unfolding fresh_answer
 returns c =
     let t = c.before in
     simp (sym (tested t.before) ∙ t.if1.true) (cc (to_z-of_z t.before.before.ranges.row))
 
 returns-2 : tie.Need-returns-2
-unfolding freshAnswer
+unfolding fresh_answer
 returns-2 c = let e = c.before in simp (sym (tested e.before) ∙ e.if1.false, c.new-span2.ensures)
 
 pub fresh-spec : {M : Type 1} → statement M

@@ -2,12 +2,12 @@ use borrow.Author.Rules.{rules}
 use mir.Syntax.{w64}
 use mir.Facts.{to_z-of_z}
 use Rattle.whole.proofs.Spans.{bits-eq}
-use Rattle.scanline.specs.Answers.{joinRefusal}
+use Rattle.scanline.specs.Answers.{join_refusal}
 use Rattle.scanline.proofs.join_refusal.Statement.{statement}
 use Rattle.scanline.proofs.join_refusal.Tie as tie
 
 returns : tie.Need-returns
-unfolding joinRefusal
+unfolding join_refusal
 returns c =
     let s = c.before.before.before.before.before.before.before.before.args in
     cc (

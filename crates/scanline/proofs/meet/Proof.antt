@@ -2,9 +2,9 @@ use mathlib.Core.Path.{sym, ◌∙◌}
 use borrow.Author.Rules.{rules}
 use borrow.Author.Tests.{ne_eqb}
 use lib.Dec.{lit≤}
-use Rattle.shapes.specs.Limits.{cornerLimit}
+use Rattle.shapes.specs.Limits.{corner_limit}
 use Rattle.shapes.proofs.Laws.{line-near-more}
-use Rattle.scanline.specs.Answers.{meetAnswer}
+use Rattle.scanline.specs.Answers.{meet_answer}
 use Rattle.scanline.proofs.Answers.{meet-none}
 use Rattle.scanline.proofs.meet.Statement.{statement}
 use Rattle.scanline.proofs.meet.Tie as tie
@@ -12,14 +12,14 @@ use Rattle.scanline.proofs.meet.Tie as tie
 meet-requires : tie.Need-meet-requires
 meet-requires c κs =
     let a = c.before.before.args in
-    line-near-more ((meet-none cornerLimit a.span a.line).0 (sym c.before.meet-refusal.ensures ∙ c.if1.true)).0 (lit≤ tt)
+    line-near-more ((meet-none corner_limit a.span a.line).0 (sym c.before.meet-refusal.ensures ∙ c.if1.true)).0 (lit≤ tt)
 
 returns : tie.Need-returns
-unfolding meetAnswer
+unfolding meet_answer
 returns c = let t = c.before in simp (sym t.before.meet-refusal.ensures ∙ t.if1.true, c.meet.ensures)
 
 returns-2 : tie.Need-returns-2
-unfolding meetAnswer
+unfolding meet_answer
 returns-2 c =
     let e = c.before.meet-refusal in
     rw (← e.ensures) (simp (ne_eqb e.result 0 c.if1.false))

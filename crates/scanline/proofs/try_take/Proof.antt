@@ -1,18 +1,18 @@
 use mathlib.Core.Path.{sym, ◌∙◌}
 use borrow.Author.Rules.{rules}
 use borrow.Author.Tests.{ne_eqb}
-use Rattle.scanline.specs.Answers.{tryTakeAnswer}
+use Rattle.scanline.specs.Answers.{try_take_answer}
 use Rattle.scanline.proofs.try_take.Statement.{statement}
 use Rattle.scanline.proofs.try_take.Tie as tie
 
 returns : tie.Need-returns
-unfolding tryTakeAnswer
+unfolding try_take_answer
 returns c =
     let t = c.before.before.before in
     rw (← c.before.before.try-take.ensures) (simp (sym t.before.span-refusal.ensures ∙ t.if1.true))
 
 returns-2 : tie.Need-returns-2
-unfolding tryTakeAnswer
+unfolding try_take_answer
 returns-2 c =
     let e = c.before in
     let r = e.before.span-refusal in

@@ -4,29 +4,29 @@ use mathlib.Core.Bool.{false}
 use borrow.Author.Rules.{rules}
 use borrow.Author.Tests.{ne_eqb}
 use lib.Dec.{lit≤}
-use Rattle.shapes.specs.Limits.{panel, lineLimit}
+use Rattle.shapes.specs.Limits.{panel, line_limit}
 use Rattle.line_join.proofs.Room.{join-near-more}
 use Rattle.route_joins.proofs.Near.{all_more, joins-exactly}
-use Rattle.scanline_intersections.specs.Answers.{nextRefusal, nextAnswer}
+use Rattle.scanline_intersections.specs.Answers.{next_refusal, next_answer}
 use Rattle.scanline_intersections.proofs.Refused.{next-sound}
 use Rattle.scanline_intersections.proofs.next.Statement.{statement}
 use Rattle.scanline_intersections.proofs.next.Tie as tie
 
-none : (c : tie.Then1) → let a = c.before.before.before.args in nextRefusal panel a.coordinates.now a.walk ≡ 0
+none : (c : tie.Then1) → let a = c.before.before.before.args in next_refusal panel a.coordinates.now a.walk ≡ 0
 none c = sym (ap (λ r. r.refusal) c.before.before.next-verdict.ensures) ∙ c.if1.true
 
 merge-requires : tie.Need-merge-requires
 merge-requires c κs =
     let a = c.before.before.before.args in
     let h = (next-sound panel a.coordinates.now a.walk).0 (none c) in
-    (all_more h.0.near (lit≤ tt), (h.0.thin, (joins-exactly lineLimit false a.coordinates.now a.walk.width).1 (λ i l. join-near-more (h.1.0 i l) (lit≤ tt))))
+    (all_more h.0.near (lit≤ tt), (h.0.thin, (joins-exactly line_limit false a.coordinates.now a.walk.width).1 (λ i l. join-near-more (h.1.0 i l) (lit≤ tt))))
 
 returns : tie.Need-returns
-unfolding nextAnswer
+unfolding next_answer
 returns c = rw (none c.before) c.merge.ensures
 
 returns-2 : tie.Need-returns-2
-unfolding nextAnswer
+unfolding next_answer
 returns-2 c =
     let e = c.before.before.next-verdict in
     rw (← ap (λ r. r.refusal) e.ensures, ← ap (λ r. r.bend) e.ensures) (simp (ne_eqb e.result.refusal 0 c.if1.false))

@@ -8,55 +8,55 @@ use lib.Dec.{lit≤}
 use mir.Syntax.{w64}
 use mir.Facts.{to_z-of_z}
 use Rattle.shapes.specs.declared.Span.{Span}
-use Rattle.shapes.specs.Limits.{pointLimit, cornerLimit, panel}
+use Rattle.shapes.specs.Limits.{point_limit, corner_limit, panel}
 use Rattle.shapes.proofs.Widths.{thin-held, thin-back}
 use Rattle.scanline.specs.declared.Taken.{Taken}
-use Rattle.scanline.specs.Answers.{spanRefusal, tryTakeAnswer}
-use Rattle.coordinates.specs.Refusal.{routeRefusal, Accepted}
+use Rattle.scanline.specs.Answers.{span_refusal, try_take_answer}
+use Rattle.coordinates.specs.Refusal.{route_refusal, Accepted}
 use Rattle.coordinates.proofs.Laws.{accepted-exactly}
 use Rattle.whole.proofs.Tests.{else-false}
-use Rattle.route_joins.specs.Joins.{areJoinsNear, nearJoins, routeBend}
+use Rattle.route_joins.specs.Joins.{are_joins_near, near_joins, route_bend}
 use Rattle.route_joins.proofs.Near.{all_more}
 use Rattle.route_joins.proofs.Bends.{near-all}
 use Rattle.route_joins.proofs.Walks.{refusal-told}
-use Rattle.scanline_intersections.specs.Answers.{nextRefusal, nextVerdict}
+use Rattle.scanline_intersections.specs.Answers.{next_refusal, next_verdict}
 use Rattle.scanline_intersections.proofs.next_verdict.Statement.{statement}
 use Rattle.scanline_intersections.proofs.next_verdict.Tie as tie
 
 -- `try_take` tells the refusal of its span
-taken : (s : Span) → (tryTakeAnswer cornerLimit s).refusal ≡ spanRefusal cornerLimit s
-unfolding tryTakeAnswer
-taken s = refusal-told {A = Taken} (λ r. r.refusal) (spanRefusal cornerLimit s) refl refl
+taken : (s : Span) → (try_take_answer corner_limit s).refusal ≡ span_refusal corner_limit s
+unfolding try_take_answer
+taken s = refusal-told {A = Taken} (λ r. r.refusal) (span_refusal corner_limit s) refl refl
 
-told : (c : tie.After-refusal) → let a = c.before.before.args in routeRefusal pointLimit false a.coordinates.now a.walk.width ≡ c.refusal.result
+told : (c : tie.After-refusal) → let a = c.before.before.args in route_refusal point_limit false a.coordinates.now a.walk.width ≡ c.refusal.result
 told c = cc (to_z-of_z {w = w64} {z = c.before.before.args.walk.width} (search rules))
 
 returns : tie.Need-returns
-unfolding nextRefusal routeBend
+unfolding next_refusal route_bend
 returns c = rw (told c.before, ne_eqb c.before.refusal.result 0 c.if1.true)
 
 -- past the first test, the list and the width are as 01 has them
-accepted : (c : tie.Else1) → let a = c.before.before.before.args in Accepted pointLimit false a.coordinates.now a.walk.width
-accepted c = let a = c.before.before.before.args in (accepted-exactly pointLimit false a.coordinates.now a.walk.width).0 (told c.before ∙ c.if1.false)
+accepted : (c : tie.Else1) → let a = c.before.before.before.args in Accepted point_limit false a.coordinates.now a.walk.width
+accepted c = let a = c.before.before.before.args in (accepted-exactly point_limit false a.coordinates.now a.walk.width).0 (told c.before ∙ c.if1.false)
 
 near-joins-requires : tie.Need-near-joins-requires
 near-joins-requires c κs = let a = accepted c in (all_more a.near (lit≤ tt), thin-back a.thin)
 
 -- and the joins decide: all are near exactly when as many are as there are
-counted : (c : tie.After-near-joins) → let a = c.before.before.before.before.args in c.near-joins.result ≡ nearJoins cornerLimit false a.coordinates.now a.walk.width
+counted : (c : tie.After-near-joins) → let a = c.before.before.before.before.args in c.near-joins.result ≡ near_joins corner_limit false a.coordinates.now a.walk.width
 counted c = cc (thin-held (accepted c.before).thin).is
 
 abbrev all : tie.After-join-count → Bool
-all c = let a = c.before.before.before.before.before.args in areJoinsNear cornerLimit false a.coordinates.now a.walk.width
+all c = let a = c.before.before.before.before.before.args in are_joins_near corner_limit false a.coordinates.now a.walk.width
 
 all_near : (c : tie.After-join-count) → (c.before.near-joins.result ≡ c.join-count.result) ↔ (all c ≡ true)
 all_near c =
     let a = c.before.before.before.before.before.args in
-    rw (counted c.before, c.join-count.ensures) (near-all cornerLimit false a.coordinates.now a.walk.width)
+    rw (counted c.before, c.join-count.ensures) (near-all corner_limit false a.coordinates.now a.walk.width)
 
 joins-told : (c : tie.After-join-count) {t : Bool} → all c ≡ t → let a = c.before.before.before.before.before.args in
-    nextVerdict panel a.coordinates.now a.walk ≡ record { refusal = cond t (spanRefusal cornerLimit a.walk.span) 5; bend = cond t 0 (nearJoins cornerLimit false a.coordinates.now a.walk.width) }
-unfolding nextRefusal routeBend
+    next_verdict panel a.coordinates.now a.walk ≡ record { refusal = cond t (span_refusal corner_limit a.walk.span) 5; bend = cond t 0 (near_joins corner_limit false a.coordinates.now a.walk.width) }
+unfolding next_refusal route_bend
 joins-told c e =
     let r = c.before.before.before in
     rw (told r, eq-eqb r.refusal.result 0 c.before.before.if1.false, e)

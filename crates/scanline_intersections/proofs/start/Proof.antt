@@ -4,19 +4,19 @@ use borrow.Author.Rules.{rules}
 use borrow.Author.Tests.{eq-eqb, ne_eqb}
 use mir.Facts.{to_z-of_z}
 use Rattle.shapes.specs.Limits.{panel}
-use Rattle.scanline_intersections.specs.Answers.{startRefusal, polylineStart}
+use Rattle.scanline_intersections.specs.Answers.{start_refusal, polyline_start}
 use Rattle.scanline_intersections.proofs.start.Statement.{statement}
 use Rattle.scanline_intersections.proofs.start.Tie as tie
 
-told : (c : tie.After-start-refusal) → let a = c.before.args in startRefusal panel a.coordinates.now a.width a.row ≡ c.start-refusal.result
+told : (c : tie.After-start-refusal) → let a = c.before.args in start_refusal panel a.coordinates.now a.width a.row ≡ c.start-refusal.result
 told c = cc (to_z-of_z c.before.ranges.width, to_z-of_z c.before.ranges.row)
 
 returns : tie.Need-returns
-unfolding polylineStart
+unfolding polyline_start
 returns c = let b = c.before.before in rw (told c.before, eq-eqb c.before.start-refusal.result 0 c.if1.true, to_z-of_z b.ranges.width, to_z-of_z b.ranges.row)
 
 returns-2 : tie.Need-returns-2
-unfolding polylineStart
+unfolding polyline_start
 returns-2 c = rw (told c.before, ne_eqb c.before.start-refusal.result 0 c.if1.false)
 
 pub start_spec : {M : Type 1} → statement M

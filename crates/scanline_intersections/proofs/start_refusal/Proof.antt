@@ -4,21 +4,21 @@ use mathlib.Core.Bool.{Bool, false, cond}
 use borrow.Author.Rules.{rules}
 use borrow.Author.Tests.{eq-eqb, ne_eqb}
 use mir.Facts.{to_z-of_z}
-use Rattle.shapes.specs.Limits.{pointLimit, panel}
-use Rattle.coordinates.specs.Refusal.{routeRefusal}
-use Rattle.scanline_intersections.specs.Answers.{startRefusal}
+use Rattle.shapes.specs.Limits.{point_limit, panel}
+use Rattle.coordinates.specs.Refusal.{route_refusal}
+use Rattle.scanline_intersections.specs.Answers.{start_refusal}
 use Rattle.scanline_intersections.proofs.start_refusal.Statement.{statement}
 use Rattle.scanline_intersections.proofs.start_refusal.Tie as tie
 
-told : (c : tie.After-refusal) → routeRefusal pointLimit false c.before.args.coordinates.now c.before.args.width ≡ c.refusal.result
+told : (c : tie.After-refusal) → route_refusal point_limit false c.before.args.coordinates.now c.before.args.width ≡ c.refusal.result
 told c = cc (to_z-of_z c.before.ranges.width)
 
 returns : tie.Need-returns
-unfolding startRefusal
+unfolding start_refusal
 returns c = rw (told c.before, ne_eqb c.before.refusal.result 0 c.if1.true)
 
-row_told : (c : tie.After-within) {t : Bool} → c.within.result ≡ t → let a = c.before.before.before.args in startRefusal panel a.coordinates.now a.width a.row ≡ cond t 0 6
-unfolding startRefusal
+row_told : (c : tie.After-within) {t : Bool} → c.within.result ≡ t → let a = c.before.before.before.args in start_refusal panel a.coordinates.now a.width a.row ≡ cond t 0 6
+unfolding start_refusal
 row_told c e =
     let s = c.before.before.before in
     rw (told c.before.before, eq-eqb c.before.before.refusal.result 0 c.before.if1.false) (cc (e, to_z-of_z s.ranges.row))

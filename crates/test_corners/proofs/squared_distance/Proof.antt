@@ -2,17 +2,17 @@
 use mathlib.Core.Path.{sym, ◌∙◌}
 use borrow.Author.Rules.{rules}
 use lib.Dec.{lit≤}
-use Rattle.shapes.specs.Limits.{cornerLimit}
+use Rattle.shapes.specs.Limits.{corner_limit}
 use Rattle.shapes.specs.Shape.{Near}
 use Rattle.shapes.proofs.Laws.{true-near, near-more, near-minus}
 use Rattle.test_corners.proofs.squared_distance.Statement.{statement}
 use Rattle.test_corners.proofs.squared_distance.Tie as tie
 
-a-near : (c : tie.Then2) → Near cornerLimit c.before.before.before.before.args.a
-a-near c = true-near cornerLimit _ (sym c.before.before.before.is-near.ensures ∙ c.before.before.if1.true)
+a-near : (c : tie.Then2) → Near corner_limit c.before.before.before.before.args.a
+a-near c = true-near corner_limit _ (sym c.before.before.before.is-near.ensures ∙ c.before.before.if1.true)
 
-b-near : (c : tie.Then2) → Near cornerLimit c.before.before.before.before.args.b
-b-near c = true-near cornerLimit _ (sym c.before.is-near2.ensures ∙ c.if2.true)
+b-near : (c : tie.Then2) → Near corner_limit c.before.before.before.before.args.b
+b-near c = true-near corner_limit _ (sym c.before.is-near2.ensures ∙ c.if2.true)
 
 is-near-requires : tie.Need-is-near-requires
 is-near-requires c κs = search rules

@@ -4,15 +4,15 @@ use mir.Syntax.{w64}
 use mir.Val.{to_z, of_z}
 use lib.IntN.{nat_abs}
 use borrow.Author.Rules.{rules}
-use Rattle.line_join.specs.Join.{cornersOf}
-use Rattle.test_numbers.specs.Numbers.{numberAt}
-use Rattle.test_text.specs.Questions.{nextPlace, line_at}
-use Rattle.test_joins.specs.Joins.{kind_of, joinAt}
+use Rattle.line_join.specs.Join.{corners_of}
+use Rattle.test_numbers.specs.Numbers.{number_at}
+use Rattle.test_text.specs.Questions.{next_place, line_at}
+use Rattle.test_joins.specs.Joins.{kind_of, join_at}
 use Rattle.test_joins.proofs.join_at.Statement.{statement}
 use Rattle.test_joins.proofs.join_at.Tie as tie
 
 -- the position's number, and the two lines behind it
-position : (c : tie.After-number-at) → c.number_at.result ≡ numberAt c.before.before.before.before.before.before.args.s.now (nextPlace (nextPlace c.before.before.before.before.before.before.args.at))
+position : (c : tie.After-number-at) → c.number_at.result ≡ number_at c.before.before.before.before.before.before.args.s.now (next_place (next_place c.before.before.before.before.before.before.args.at))
 position c = cc
 
 -- its value is what the call is given
@@ -20,7 +20,7 @@ held : (c : tie.After-number-at) → to_z w64 (of_z w64 c.number_at.result.value
 held c = to_z-of_z {w = w64} {z = c.number_at.result.value} (search (rules, c.number_at.type-inv.1))
 
 returns : tie.Need-returns
-unfolding joinAt
+unfolding join_at
 returns c =
     let crossings = c.before.before in
     let corners = crossings.before in
@@ -30,12 +30,12 @@ returns c =
     let k = p.before.before.before in
     let s = k.before.before.before.args.s.now in
     let number = position p in
-    let first = a.line_at_lem.ensures ∙ ap (line_at s) (a.before.after3.ensures ∙ ap (λ n. nextPlace n.next) number) in
+    let first = a.line_at_lem.ensures ∙ ap (line_at s) (a.before.after3.ensures ∙ ap (λ n. next_place n.next) number) in
     let second = b.line-at2.ensures ∙ ap (λ l. line_at s l.next) first in
     simp (
       k.kind-of.ensures ∙ ap kind_of k.before.byte_at.ensures,
-      corners.before.corners-of.ensures ∙ ap (λ l. cornersOf l.line.start l.line.end) first,
-      corners.corners-of2.ensures ∙ ap (λ l. cornersOf l.line.start l.line.end) second,
+      corners.before.corners-of.ensures ∙ ap (λ l. corners_of l.line.start l.line.end) first,
+      corners.corners-of2.ensures ∙ ap (λ l. corners_of l.line.start l.line.end) second,
       crossings.no-crossings.ensures,
       c.size.ensures ∙ ap nat_abs (held p) ∙ ap (λ n. nat_abs n.value) number,
       second,

@@ -4,19 +4,19 @@ use mathlib.Core.Path.{◌≡◌, refl, sym, ◌∙◌}
 use native.Mathlib.Omega.{arith}
 use borrow.Author.Rules.{rules}
 use borrow.Author.Tests.{not-true, not-false}
-use Rattle.test_numbers.specs.Numbers.{digitsFrom, digitsAt}
+use Rattle.test_numbers.specs.Numbers.{digits_from, digits_at}
 use Rattle.test_numbers.proofs.Reading.{Turn, turn, digits-end, digits-stop}
 use Rattle.test_numbers.proofs.digits_at.Statement.{statement}
 use Rattle.test_numbers.proofs.digits_at.Tie as tie
 
 abbrev invariant-loop : tie.invariant-loop
-invariant-loop s at value₀ next₀ left₀ value next left = digitsFrom left s value next ≡ digitsAt s at
+invariant-loop s at value₀ next₀ left₀ value next left = digits_from left s value next ≡ digits_at s at
 
 abbrev decreases-loop : tie.decreases-loop
 decreases-loop s at value₀ next₀ left₀ value next left = left
 
 loop-holds : tie.Need-loop-init invariant-loop decreases-loop
-unfolding digitsAt
+unfolding digits_at
 loop-holds c = refl
 
 byte-at-requires : tie.Need-byte-at-requires invariant-loop decreases-loop

@@ -1,15 +1,15 @@
 -- `test_numbers::is_digit` meets its contract. Assumes nothing.
 use borrow.Author.Tests.{le-leb, lt-leb}
-use Rattle.test_numbers.specs.Numbers.{isDigit}
+use Rattle.test_numbers.specs.Numbers.{is_digit}
 use Rattle.test_numbers.proofs.is_digit.Statement.{statement}
 use Rattle.test_numbers.proofs.is_digit.Tie as tie
 
 returns : tie.Need-returns
-unfolding isDigit
+unfolding is_digit
 returns c = simp (lt-leb _ _ c.if1.true)
 
 returns-2 : tie.Need-returns-2
-unfolding isDigit
+unfolding is_digit
 returns-2 c = simp (le-leb _ _ c.if1.false)
 
 pub is-digit-spec : {M : Type 1} → statement M

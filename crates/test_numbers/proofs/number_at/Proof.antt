@@ -7,13 +7,13 @@ use borrow.Author.Tests.{eq-eqb, ne_eqb}
 use lib.IntN.{pos}
 use Rattle.whole.proofs.Machine.{Hold, hold, fits, fits_neg, hold-neg}
 use Rattle.test_numbers.specs.declared.Digits.{Digits}
-use Rattle.test_numbers.specs.Numbers.{digitsAt, numberAt}
+use Rattle.test_numbers.specs.Numbers.{digits_at, number_at}
 use Rattle.test_numbers.proofs.Reading.{inside, small}
 use Rattle.test_numbers.proofs.number_at.Statement.{statement}
 use Rattle.test_numbers.proofs.number_at.Tie as tie
 
 -- the number that digits say, in its bits
-held : (s : List ℕ) (at : ℕ) {d : Digits} → d ≡ digitsAt s at → Hold d.value (pos d.value) (10 ^ 18)
+held : (s : List ℕ) (at : ℕ) {d : Digits} → d ≡ digits_at s at → Hold d.value (pos d.value) (10 ^ 18)
 held s at {d} e = hold {z = pos d.value} (record { bound = rw e (omega (arith, small s at)) }) tt
 
 byte-at-requires : tie.Need-byte-at-requires
@@ -32,7 +32,7 @@ sub-t9 : tie.Need-overflow-sub-t9
 sub-t9 c = fits_neg (held _ _ c.before.digits-at.ensures) tt
 
 returns : tie.Need-returns
-unfolding numberAt
+unfolding number_at
 returns c =
     let d = c.before.digits-at.ensures in
     let t = c.before.before in
@@ -45,7 +45,7 @@ cast-t10 : tie.Need-overflow-cast-t10
 cast-t10 c = fits (10 ^ 18) (held _ _ c.before.digits-at2.ensures).small tt
 
 returns-2 : tie.Need-returns-2
-unfolding numberAt
+unfolding number_at
 returns-2 c =
     let d = c.before.digits-at2.ensures in
     let t = c.before.before in

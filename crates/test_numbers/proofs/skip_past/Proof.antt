@@ -8,31 +8,31 @@ use borrow.Author.Rules.{rules}
 use borrow.Author.Tests.{eq-eqb, ne_eqb}
 use lib.ListN.{length, drop, get_or, drop_of_length-le}
 use lib.Seq.{drop-cons}
-use Rattle.test_numbers.specs.Lines.{skipFrom, skipPast}
+use Rattle.test_numbers.specs.Lines.{skip_from, skip_past}
 use Rattle.test_numbers.proofs.skip_past.Statement.{statement}
 use Rattle.test_numbers.proofs.skip_past.Tie as tie
 
 abbrev invariant-loop : tie.invariant-loop
-invariant-loop s at b next₀ next = skipFrom b (drop next s) next ≡ skipPast s at b
+invariant-loop s at b next₀ next = skip_from b (drop next s) next ≡ skip_past s at b
 
 abbrev decreases-loop : tie.decreases-loop
 decreases-loop s at b next₀ next = length s - next
 
 module _ (s : List ℕ) (at b : ℕ) where
-  skip-end : length s ≤ at → skipFrom b (drop at s) at ≡ at
-  unfolding skipFrom
+  skip-end : length s ≤ at → skip_from b (drop at s) at ≡ at
+  unfolding skip_from
   skip-end h = rw (drop_of_length-le s h)
 
-  skip-found : at < length s → get_or s at 0 ≡ b → skipFrom b (drop at s) at ≡ at + 1
-  unfolding skipFrom
+  skip-found : at < length s → get_or s at 0 ≡ b → skip_from b (drop at s) at ≡ at + 1
+  unfolding skip_from
   skip-found h e = rw (drop-cons s at 0, eq-eqb (get_or s at 0) b e)
 
-  skip-on : at < length s → (get_or s at 0 ≡ b → ⊥) → skipFrom b (drop at s) at ≡ skipFrom b (drop (at + 1) s) (at + 1)
-  unfolding skipFrom
+  skip-on : at < length s → (get_or s at 0 ≡ b → ⊥) → skip_from b (drop at s) at ≡ skip_from b (drop (at + 1) s) (at + 1)
+  unfolding skip_from
   skip-on h e = rw (drop-cons s at 0, ne_eqb (get_or s at 0) b e, add-one)
 
 loop-holds : tie.Need-loop-init invariant-loop decreases-loop
-unfolding skipPast
+unfolding skip_past
 loop-holds c = refl
 
 shared-slice-read-x : tie.Need-shared-slice-read-x invariant-loop decreases-loop

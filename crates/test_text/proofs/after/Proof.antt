@@ -1,6 +1,6 @@
 use borrow.Author.Rules.{rules}
 use borrow.Author.Tests.{lt-ltb, le-ltb}
-use Rattle.test_text.specs.Questions.{nextPlace}
+use Rattle.test_text.specs.Questions.{next_place}
 use Rattle.test_text.proofs.after.Statement.{statement}
 use Rattle.test_text.proofs.after.Tie as tie
 
@@ -8,11 +8,11 @@ add-result : tie.Need-overflow-add-result
 add-result c = search rules
 
 returns : tie.Need-returns
-unfolding nextPlace
+unfolding next_place
 returns c = simp (lt-ltb _ _ c.if1.true)
 
 returns-2 : tie.Need-returns-2
-unfolding nextPlace
+unfolding next_place
 returns-2 c = simp (le-ltb _ _ c.if1.false)
 
 pub after-spec : {M : Type 1} → statement M

@@ -1,6 +1,6 @@
 use mathlib.Core.Path.{ap, ◌∙◌}
 use borrow.Author.Rules.{rules}
-use Rattle.test_text.specs.Questions.{pointAt, line_at}
+use Rattle.test_text.specs.Questions.{point_at, line_at}
 use Rattle.test_text.proofs.line_at.Statement.{statement}
 use Rattle.test_text.proofs.line_at.Tie as tie
 
@@ -15,7 +15,7 @@ unfolding line_at
 returns c =
     let s = c.before.before.before.before.before.args.s.now in
     let a = c.before.before.before.point_at.ensures in
-    simp (c.before.before.point-at2.ensures ∙ ap (λ p. pointAt s p.next) a, a)
+    simp (c.before.before.point-at2.ensures ∙ ap (λ p. point_at s p.next) a, a)
 
 pub line-at-spec : {M : Type 1} → statement M
 line-at-spec = tie.close (tie.spec point-at-requires point-at-requires-2 returns)

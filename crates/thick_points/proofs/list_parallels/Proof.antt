@@ -3,18 +3,18 @@ use borrow.Author.Rules.{rules}
 use lib.Dec.{lit<}
 use lib.ListN.{length}
 use mir.Facts.{to_z-of_z}
-use Rattle.parallels.specs.Parallels.{parallelsOf}
-use Rattle.thick_points.specs.Listing.{parallelsRefusal}
+use Rattle.parallels.specs.Parallels.{parallels_of}
+use Rattle.thick_points.specs.Listing.{parallels_refusal}
 use Rattle.thick_points.proofs.Answers.{each}
 use Rattle.thick_points.proofs.Lists.{line-starts, numbers-length}
 use Rattle.thick_points.proofs.list_parallels.Statement.{statement}
 use Rattle.thick_points.proofs.list_parallels.Tie as tie
 
 returns : tie.Need-returns
-unfolding parallelsRefusal
+unfolding parallels_refusal
 returns c =
     let a = c.before.before.before.before.args in
-    let ps = parallelsOf a.line a.width a.offset in
+    let ps = parallels_of a.line a.width a.offset in
     let r = c.before.before.list.ensures in
     rw (r.0, r.1, to_z-of_z c.before.before.before.before.ranges.width, line-starts a.line a.width a.offset)
     (each _ 4 (length ps) (lit< tt) (numbers-length ps), refl)

@@ -1,25 +1,25 @@
 use mathlib.Core.Path.{◌≡◌, refl, sym, ◌∙◌}
 use mathlib.Core.Bool.{true}
 use borrow.Author.Rules.{rules}
-use Rattle.shapes.specs.Limits.{cornerLimit}
-use Rattle.thick_segment.specs.Segments.{isSegmentNear}
-use Rattle.thick_segment.specs.Answers.{drawnRowsAnswer}
+use Rattle.shapes.specs.Limits.{corner_limit}
+use Rattle.thick_segment.specs.Segments.{is_segment_near}
+use Rattle.thick_segment.specs.Answers.{drawn_rows_answer}
 use Rattle.thick_segment.proofs.Refused.{segment-room}
 use Rattle.thick_segment.proofs.drawn_rows.Statement.{statement}
 use Rattle.thick_segment.proofs.drawn_rows.Tie as tie
 
-inside : (c : tie.Then1) → isSegmentNear cornerLimit c.before.before.args.segment ≡ true
+inside : (c : tie.Then1) → is_segment_near corner_limit c.before.before.args.segment ≡ true
 inside c = sym c.before.is-segment-near.ensures ∙ c.if1.true
 
 drawn-rows-requires : tie.Need-drawn-rows-requires
 drawn-rows-requires c κs = segment-room c.before.before.args.segment (inside c)
 
 returns : tie.Need-returns
-unfolding drawnRowsAnswer
+unfolding drawn_rows_answer
 returns c = simp (inside c.before, c.drawn-rows.ensures) refl
 
 returns-2 : tie.Need-returns-2
-unfolding drawnRowsAnswer
+unfolding drawn_rows_answer
 returns-2 c = simp (sym c.before.before.is-segment-near.ensures ∙ c.before.if1.false, c.far-bend.ensures) refl
 
 pub drawn-rows-spec : {M : Type 1} → statement M

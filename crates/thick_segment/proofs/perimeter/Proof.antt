@@ -1,25 +1,25 @@
 use mathlib.Core.Path.{◌≡◌, sym, ◌∙◌}
 use mathlib.Core.Bool.{true}
 use borrow.Author.Rules.{rules}
-use Rattle.shapes.specs.Limits.{cornerLimit}
-use Rattle.thick_segment.specs.Segments.{isSegmentNear, rows_of}
-use Rattle.thick_segment.specs.Answers.{perimeterAnswer}
+use Rattle.shapes.specs.Limits.{corner_limit}
+use Rattle.thick_segment.specs.Segments.{is_segment_near, rows_of}
+use Rattle.thick_segment.specs.Answers.{perimeter_answer}
 use Rattle.thick_segment.proofs.Refused.{segment-room}
 use Rattle.thick_segment.proofs.perimeter.Statement.{statement}
 use Rattle.thick_segment.proofs.perimeter.Tie as tie
 
-inside : (c : tie.Then1) → isSegmentNear cornerLimit c.before.before.args.segment ≡ true
+inside : (c : tie.Then1) → is_segment_near corner_limit c.before.before.args.segment ≡ true
 inside c = sym c.before.is-segment-near.ensures ∙ c.if1.true
 
 perimeter-requires : tie.Need-perimeter-requires
 perimeter-requires c κs = segment-room c.before.before.args.segment (inside c)
 
 returns : tie.Need-returns
-unfolding perimeterAnswer
+unfolding perimeter_answer
 returns c = simp (inside c.before, c.perimeter.ensures)
 
 returns-2 : tie.Need-returns-2
-unfolding perimeterAnswer rows_of
+unfolding perimeter_answer rows_of
 returns-2 c = simp (sym c.before.is-segment-near.ensures ∙ c.if1.false)
 
 pub perimeter-spec : {M : Type 1} → statement M

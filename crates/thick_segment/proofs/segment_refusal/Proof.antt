@@ -2,29 +2,29 @@ use mathlib.Core.Path.{◌≡◌, sym, ap, ◌∙◌}
 use mathlib.Core.Bool.{true}
 use borrow.Author.Rules.{rules}
 use mir.Facts.{to_z-of_z}
-use Rattle.whole.specs.Number.{isWithin}
-use Rattle.shapes.specs.Limits.{cornerLimit}
-use Rattle.thick_segment.specs.Segments.{isSegmentNear}
-use Rattle.thick_segment.specs.Answers.{segmentRefusal}
+use Rattle.whole.specs.Number.{is_within}
+use Rattle.shapes.specs.Limits.{corner_limit}
+use Rattle.thick_segment.specs.Segments.{is_segment_near}
+use Rattle.thick_segment.specs.Answers.{segment_refusal}
 use Rattle.thick_segment.proofs.segment_refusal.Statement.{statement}
 use Rattle.thick_segment.proofs.segment_refusal.Tie as tie
 
-inside : (c : tie.Then1) → isSegmentNear cornerLimit c.before.before.args.segment ≡ true
+inside : (c : tie.Then1) → is_segment_near corner_limit c.before.before.args.segment ≡ true
 inside c = sym c.before.is-segment-near.ensures ∙ c.if1.true
 
-row_is : (c : tie.After-within) → c.within.result ≡ isWithin cornerLimit c.before.before.before.args.row
-row_is c = c.within.ensures ∙ ap (isWithin cornerLimit) (to_z-of_z c.before.before.before.ranges.row)
+row_is : (c : tie.After-within) → c.within.result ≡ is_within corner_limit c.before.before.before.args.row
+row_is c = c.within.ensures ∙ ap (is_within corner_limit) (to_z-of_z c.before.before.before.ranges.row)
 
 returns : tie.Need-returns
-unfolding segmentRefusal
+unfolding segment_refusal
 returns c = simp (inside c.before.before, sym (row_is c.before) ∙ c.if2.true)
 
 returns-2 : tie.Need-returns-2
-unfolding segmentRefusal
+unfolding segment_refusal
 returns-2 c = simp (inside c.before.before, sym (row_is c.before) ∙ c.if2.false)
 
 returns-3 : tie.Need-returns-3
-unfolding segmentRefusal
+unfolding segment_refusal
 returns-3 c = simp (sym c.before.is-segment-near.ensures ∙ c.if1.false)
 
 pub segment-refusal-spec : {M : Type 1} → statement M

@@ -6,8 +6,8 @@ use mir.Syntax.{w64}
 use mir.Val.{to_z, of_z}
 use mir.Facts.{to_z-of_z}
 use Rattle.shapes.specs.Limits.{panel}
-use Rattle.route_joins.specs.Steps.{stepValues}
-use Rattle.thick_segment_iter.specs.Walks.{openStep, afterOpen}
+use Rattle.route_joins.specs.Steps.{step_values}
+use Rattle.thick_segment_iter.specs.Walks.{open_step, after_open}
 use Rattle.thick_segment_iter.proofs.step.Statement.{statement}
 use Rattle.thick_segment_iter.proofs.step.Tie as tie
 
@@ -15,15 +15,15 @@ use Rattle.thick_segment_iter.proofs.step.Tie as tie
 held : (c : tie.After-step-at) → let w = c.before.before.before.args.walk.width in to_z w64 (of_z w64 w) ≡ w
 held c = to_z-of_z {w = w64} {z = c.before.before.before.args.walk.width} (search rules)
 
-answered : (c : tie.After-step-at) → let a = c.before.before.before.args in stepValues c.step-at.result.step ≡ openStep panel a.coordinates.now a.walk
-unfolding openStep
+answered : (c : tie.After-step-at) → let a = c.before.before.before.args in step_values c.step-at.result.step ≡ open_step panel a.coordinates.now a.walk
+unfolding open_step
 answered c = rw (held c, c.before.panel.ensures) at c.step-at.ensures.0
 
 step-at-requires : tie.Need-step-at-requires
-step-at-requires c κs = rw c.panel.ensures (record { point-room = lit≤ tt; corner-room = lit≤ tt })
+step-at-requires c κs = rw c.panel.ensures (record { point_room = lit≤ tt; corner_room = lit≤ tt })
 
 returns : tie.Need-returns
-unfolding afterOpen
+unfolding after_open
 returns c = (answered c, rw (held c, c.step-at.ensures.1, answered c))
 
 pub step_spec : {M : Type 1} → statement M

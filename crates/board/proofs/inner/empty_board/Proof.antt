@@ -1,10 +1,10 @@
 use mir.Facts.{to_z-of_z}
-use Rattle.board.specs.Boards.{padded, boardOf}
+use Rattle.board.specs.Boards.{padded, board_of}
 use Rattle.board.proofs.inner.empty_board.Statement.{statement}
 use Rattle.board.proofs.inner.empty_board.Tie as tie
 
 returns : tie.Need-returns
-unfolding boardOf padded
+unfolding board_of padded
 returns c = rw (to_z-of_z c.ranges.row)
 
 pub empty-board-spec : {M : Type 1} → statement M

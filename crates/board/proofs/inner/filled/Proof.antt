@@ -8,7 +8,7 @@ use lib.ListN.{length, get_or, take, drop, set}
 use mir.Syntax.{w64}
 use mir.Facts.{to_z-of_z}
 use Rattle.board.specs.Runs.{no_run}
-use Rattle.board.specs.Boards.{live, boardOf}
+use Rattle.board.specs.Boards.{live, board_of}
 use Rattle.board.specs.Fronts.{Filling, whole_of}
 use Rattle.board.proofs.Arrays.{length-mapped}
 use Rattle.board.proofs.Fronts.{live_more, live-none, live-long, filling-turn, filling-length, filling-all, filling-done}
@@ -56,7 +56,7 @@ loop-holds c =
     (omega (arith, s.requires.1.0.inside, live-long s.args.t1 (omega (arith, long s))), rw (again s) (begun s))
 
 returns : tie.Need-returns invariant-loop decreases-loop
-unfolding boardOf
+unfolding board_of
 returns c =
     let l = c.before.before in
     let s = l.before.before.before in

@@ -7,7 +7,7 @@ use borrow.Author.Rules.{rules}
 use lib.ListN.{length, get_or, drop}
 use mir.Syntax.{w64}
 use mir.Facts.{to_z-of_z}
-use Rattle.board.specs.Runs.{no_run, isAscending, edge}
+use Rattle.board.specs.Runs.{no_run, is_ascending, edge}
 use Rattle.board.specs.Boards.{live}
 use Rattle.board.proofs.Arrays.{length-mapped}
 use Rattle.board.proofs.Edges.{minus-fits, edge-fits, edge-is}
@@ -16,7 +16,7 @@ use Rattle.board.proofs.inner.is_ascending.Statement.{statement}
 use Rattle.board.proofs.inner.is_ascending.Tie as tie
 
 abbrev invariant-loop : tie.invariant-loop
-invariant-loop limit board n last₀ i₀ last i = (i ≤ n) × (isAscending limit last.end (drop i (live board)) ≡ isAscending limit (edge limit) (live board))
+invariant-loop limit board n last₀ i₀ last i = (i ≤ n) × (is_ascending limit last.end (drop i (live board)) ≡ is_ascending limit (edge limit) (live board))
 
 abbrev decreases-loop : tie.decreases-loop
 decreases-loop limit board n last₀ i₀ last i = n - i
@@ -26,15 +26,15 @@ long s = search (rules, length-mapped)
 
 -- the run at hand, and then the others
 turn : (c : tie.After-follows invariant-loop decreases-loop) → let s = c.before.before.before.before in let a = s.before.args in
-    (c.follows.result && isAscending a.limit (get_or a.t1.runs s.loop.i no_run).end (drop (s.loop.i + 1) (live a.t1))) ≡ isAscending a.limit (edge a.limit) (live a.t1)
-unfolding isAscending
+    (c.follows.result && is_ascending a.limit (get_or a.t1.runs s.loop.i no_run).end (drop (s.loop.i + 1) (live a.t1))) ≡ is_ascending a.limit (edge a.limit) (live a.t1)
+unfolding is_ascending
 turn c =
     let s = c.before.before.before.before in
     let next = live_more s.before.args.t1 s.loop.i (omega arith) (omega (arith, long s.before)) in
     cc (rw next at s.loop.invariant.1, to_z-of_z {w = w64} {z = s.loop.last.end} (search rules))
 
 loop-holds : tie.Need-loop-init invariant-loop decreases-loop
-loop-holds c = (search rules, ap (λ e. isAscending c.args.limit e (live c.args.t1)) (edge-is c.ranges.limit))
+loop-holds c = (search rules, ap (λ e. is_ascending c.args.limit e (live c.args.t1)) (edge-is c.ranges.limit))
 
 loop-again : tie.Need-loop-preserved invariant-loop decreases-loop
 loop-again c = (omega arith, rw c.if1.true at (turn c.before))
@@ -43,7 +43,7 @@ returns : tie.Need-returns invariant-loop decreases-loop
 returns c = rw c.if1.false at (turn c.before)
 
 returns-2 : tie.Need-returns-2 invariant-loop decreases-loop
-unfolding isAscending
+unfolding is_ascending
 returns-2 c = rw (live-none c.before.before.args.t1 c.before.loop.i (omega arith)) at c.before.loop.invariant.1
 
 pub is-ascending-spec : {M : Type 1} → statement M

@@ -6,7 +6,7 @@ use lib.ListN.{length}
 use Prim.Native.Nat.{◌*◌}
 use mir.Syntax.{w64}
 use mir.Facts.{to_z-of_z}
-use Rattle.board.specs.Boards.{live, told, toldTo}
+use Rattle.board.specs.Boards.{live, told, told_to}
 use Rattle.board.proofs.Arrays.{length-mapped}
 use Rattle.board.proofs.Fronts.{live-long}
 use Rattle.board.proofs.inner.list_sound.Statement.{statement}
@@ -20,13 +20,13 @@ module _ (s : tie.Start) where
   long = live-long s.args.board (omega (arith, array, s.pre.few))
 
 returns : tie.Need-returns
-unfolding told toldTo
+unfolding told told_to
 returns c =
     let s = c.before.before in
     rw (lt-leb (2 * length (live s.args.board)) (length s.args.out.now) (omega (arith, long s, c.before.if1.true))) (search rules)
 
 returns-2 : tie.Need-returns-2
-unfolding told toldTo
+unfolding told told_to
 returns-2 c =
     let e = c.before.before.before.before in
     let s = e.before in

@@ -5,12 +5,12 @@ use native.Mathlib.Omega.{arith}
 use borrow.Author.Rules.{rules}
 use borrow.Author.Tests.{le-leb, lt-leb}
 use lib.ListN.{length, length-drop}
-use Rattle.shapes.specs.Limits.{boardRuns}
+use Rattle.shapes.specs.Limits.{board_runs}
 use Rattle.board.specs.declared.Run.{Run}
 use Rattle.board.specs.declared.Board.{Board}
 use Rattle.board.specs.declared.inner.Front.{Front}
 use Rattle.board.specs.Runs.{with_run}
-use Rattle.board.specs.Boards.{live, spanRun, added, answer_of, boardOf}
+use Rattle.board.specs.Boards.{live, span_run, added, answer_of, board_of}
 use Rattle.board.specs.Fronts.{Gathered, whole_of}
 use Rattle.board.proofs.Arrays.{length-mapped}
 use Rattle.board.proofs.Fronts.{live-long, filling-length, filling-all}
@@ -24,7 +24,7 @@ module _ (c : tie.After-front-of) where
   b = c.before.before.before.before.args.board
 
   abbrev union : List Run
-  union = with_run (spanRun c.before.before.before.before.args.span) (live b)
+  union = with_run (span_run c.before.before.before.before.args.span) (live b)
 
   abbrev front : Front
   front = c.front_of.result
@@ -62,15 +62,15 @@ unfolding added
 returns-2 c =
     let d = c.before.before.before.before.before in
     let e = d.before.before in
-    let few : length (union d) ≤ boardRuns = omega (arith, size d, c.before.if2.true) in
-    rw (← e.before.is-empty.ensures, e.if1.false, le-leb (length (union d)) boardRuns few) (ap (answer_of 0) (c.filled.ensures ∙ ap (boardOf (b d).row) (whole_is d)))
+    let few : length (union d) ≤ board_runs = omega (arith, size d, c.before.if2.true) in
+    rw (← e.before.is-empty.ensures, e.if1.false, le-leb (length (union d)) board_runs few) (ap (answer_of 0) (c.filled.ensures ∙ ap (board_of (b d).row) (whole_is d)))
 
 returns-3 : tie.Need-returns-3
 unfolding added
 returns-3 c =
     let d = c.before.before.before.before.before in
     let e = d.before.before in
-    rw (← e.before.is-empty.ensures, e.if1.false, lt-leb (length (union d)) boardRuns (omega (arith, size d, c.before.if2.false))) c.refused.ensures
+    rw (← e.before.is-empty.ensures, e.if1.false, lt-leb (length (union d)) board_runs (omega (arith, size d, c.before.if2.false))) c.refused.ensures
 
 pub offer-sound-spec : {M : Type 1} → statement M
 offer-sound-spec =

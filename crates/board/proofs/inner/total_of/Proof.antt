@@ -14,7 +14,7 @@ use Rattle.whole.specs.Number.{Within}
 use Rattle.whole.proofs.Bounds.{within_more, within-add}
 use Rattle.whole.proofs.Machine.{Hold, hold, hold-sub, hold-add, fits-add, fits_sub}
 use Rattle.whole.proofs.Linear.{sum}
-use Rattle.shapes.specs.Limits.{lineLimit, boardRuns}
+use Rattle.shapes.specs.Limits.{line_limit, board_runs}
 use Rattle.board.specs.declared.Run.{Run}
 use Rattle.board.specs.declared.Board.{Board}
 use Rattle.board.specs.Runs.{no_run, total, edge}
@@ -27,7 +27,7 @@ use Rattle.board.proofs.inner.total_of.Tie as tie
 
 -- the largest length of a run
 abbrev longest : ℕ
-longest = suc lineLimit + suc lineLimit
+longest = suc line_limit + suc line_limit
 
 abbrev invariant-loop : tie.invariant-loop
 invariant-loop board n sum₀ i₀ sum i = (i ≤ n) × (Within sum.total (longest * (i + 1)) × (sum.total +ℤ total (drop i (live board)) ≡ total (live board)))
@@ -53,13 +53,13 @@ module _ (c : tie.In-loop invariant-loop decreases-loop) where
   next : drop i (live b) ≡ run ∷ drop (i + 1) (live b)
   next = live_more b i (omega arith) (omega (arith, array c.before.before, c.before.before.requires.few))
 
-  inside : Inside lineLimit run
-  inside = let p = at_place (live b) (drop (i + 1) (live b)) i run next in rw p.1 at (inside-at c.before.before.requires.ascending (≤ℤ_refl (edge lineLimit)) i run p.0)
+  inside : Inside line_limit run
+  inside = let p = at_place (live b) (drop (i + 1) (live b)) i run next in rw p.1 at (inside-at c.before.before.requires.ascending (≤ℤ_refl (edge line_limit)) i run p.0)
 
   length-held : Hold (of_z w64 (to_z w64 (of_z w64 run.end) -ℤ to_z w64 (of_z w64 run.start))) (run.end -ℤ run.start) longest
-  length-held = hold-sub (hold inside.end-near tt) (hold inside.start-near tt) tt
+  length-held = hold-sub (hold inside.end_near tt) (hold inside.start_near tt) tt
 
-  sum-held : Hold (of_z w64 c.before.loop.sum.total) c.before.loop.sum.total (longest * (boardRuns + 1))
+  sum-held : Hold (of_z w64 c.before.loop.sum.total) c.before.loop.sum.total (longest * (board_runs + 1))
   sum-held = hold (within_more c.before.loop.invariant.1.0 (omega (arith, c.before.before.requires.few))) tt
 
 loop-again : tie.Need-loop-preserved invariant-loop decreases-loop
@@ -93,7 +93,7 @@ total-of-spec =
     (λ c. (search rules, (record { bound = search rules }, +ℤ_idl (total (live c.args.t1)))))
     (λ c. omega arith)
     (λ c. omega arith)
-    (λ c. let t = c.before.before.before in fits_sub (hold (inside t).end-near tt) (hold (inside t).start-near tt) tt)
+    (λ c. let t = c.before.before.before in fits_sub (hold (inside t).end_near tt) (hold (inside t).start_near tt) tt)
     (λ c. let t = c.before.before.before.before.before in fits-add (sum-held t) (length-held t) tt)
     (λ c. omega arith)
     (λ c. omega arith)

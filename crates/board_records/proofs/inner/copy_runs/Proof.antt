@@ -52,7 +52,7 @@ use denote.Triple.Spec.{Meets, triple_of}
 use denote.Triple.Table.{entered, cited}
 use denote.Triple.Walked.{says, rules as asked, Stays, stay_slice, stay_none, walk_of, Goes-slice, Goes-none, Walks, ends_at, walked, walk_Meets}
 use denote.Exit.{yes}
-use Rattle.shapes.specs.Limits.{boardRuns}
+use Rattle.shapes.specs.Limits.{board_runs}
 use Rattle.board.specs.declared.Run.{Run}
 use Rattle.board.specs.declared.Board.{Board}
 use Rattle.board.proofs.Arrays.{length-mapped, pasted, paste-length, paste-turn}
@@ -61,7 +61,7 @@ use Rattle.board.specs.contracts.Run as T
 use Rattle.board.proofs.Run.TheLaws as T'
 use Rattle.board.specs.contracts.Board as B
 use Rattle.board.proofs.Board.TheLaws as B'
-use Rattle.board_records.specs.Records.{recordsOver}
+use Rattle.board_records.specs.Records.{records_over}
 use Rattle.board_records.proofs.Values.{held, head-is}
 use Rattle.board.specs.contracts.inner.run_at as run_at
 use Rattle.board.proofs.inner.run_at.Symbol as run-at-def
@@ -98,7 +98,7 @@ module _ {M : Type 1} {𝓤 : Ura M} (𝓛 : Logic 𝓤) (at_mem : Memory → SP
   got_of d i r = ex_e 𝓤 _ (λ ws. snd∗ 𝓤 (sem 𝓛 (lasts run_at.ended tt (d, (i, tt)) ws)) (fact 𝓤 (r ≡ get_or d.runs i no_run)))
 
 module _ {M : Type 1} {𝓤 : Ura M} (𝓛 : Logic 𝓤) (at_mem : Memory → SProp 𝓤) (run : Routine → Fun 𝓤) (κ : Lft) (q : Share) (b o : ℕ) (γ : GName)
-    (ys : List Run) (rm : Room R (length ys)) (d : Board) (d-is : Is B.the_row d (held d ∷ [])) (n : ℕ) (n-fits : n < 2 ^ 64) (pre : (n ≤ boardRuns) × (n ≤ length ys)) where
+    (ys : List Run) (rm : Room R (length ys)) (d : Board) (d-is : Is B.the_row d (held d ∷ [])) (n : ℕ) (n-fits : n < 2 ^ 64) (pre : (n ≤ board_runs) × (n ≤ length ys)) where
   open 𝓛 use {H}
 
   abbrev x : List Run → MutBor (List Run)
@@ -128,8 +128,8 @@ module _ {M : Type 1} {𝓤 : Ura M} (𝓛 : Logic 𝓤) (at_mem : Memory → SP
   L-turn i h = paste-turn d.runs ys _ i (get_or d.runs i no_run) (omega arith) (drop-cons d.runs i no_run (omega (arith, array_long d d-is)))
 
   -- and once all are
-  L-done : L n ≡ recordsOver ys (take n d.runs)
-  unfolding recordsOver
+  L-done : L n ≡ records_over ys (take n d.runs)
+  unfolding records_over
   L-done = rw (length-take-le n d.runs (omega (arith, array_long d d-is)))
 
   abbrev Post : Val → SProp 𝓤
@@ -147,7 +147,7 @@ module _ {M : Type 1} {𝓤 : Ura M} (𝓛 : Logic 𝓤) (at_mem : Memory → SP
   abbrev to-run : ℕ → (RunAt 𝓛 at_mem run).Ghost
   to-run i = ((tt, tt, tt, (d, (i, tt)), (held d ∷ [], (vint w64 i ∷ [], tt))), tt)
 
-  goes-run : (i : ℕ) → i < boardRuns → i < 2 ^ 64 → ent 𝓤 (sem 𝓛 ftrue) ((RunAt 𝓛 at_mem run).pre (to-run i))
+  goes-run : (i : ℕ) → i < board_runs → i < 2 ^ 64 → ent 𝓤 (sem 𝓛 ftrue) ((RunAt 𝓛 at_mem run).pre (to-run i))
   goes-run i h f =
       qed 𝓛 (‵ ftrue ∷ []) ∵ says ! h $ frame ! $
       nothing ! $ owned ! usize (Is usize) (uint_Makes 𝓛 w64) i _ (refl, f) $ fjoin ! $ owned ! B.the_row (Is B.the_row) (LL.makes B.the_type B'.the_plain 𝓛) d _ d-is $ fjoin ! $ done !
@@ -265,7 +265,7 @@ module _ {M : Type 1} {𝓤 : Ura M} (𝓛 : Logic 𝓤) (at_mem : Memory → SP
   walks : Walks 𝓛 copy-runs.ended stayed (WpFn 𝓤 H 𝓣.C 𝓣.Λ code.function) (copy-runs.clauses 𝓛 at_mem run)
   walks = walked 𝓛 copy-runs.ended stayed (copy-runs.clauses 𝓛 at_mem run) (WpFn 𝓤 H 𝓣.C 𝓣.Λ code.function)
       (λ κs. (LL.vals B.the_type B'.the_laws, (uint_vals w64, (mut_slice_vals, tt)))) (λ κs. (LL.tells B.the_type B'.the_laws, (uint_Tells w64, (mut_slice_Tells (named 0) κs.0 R, tt))))
-      (λ κs qs bounds a g are. asked 𝓤 ((a.1.0 ≤ boardRuns) × (a.1.0 ≤ length a.1.1.0.now)) _ (λ pre.
+      (λ κs qs bounds a g are. asked 𝓤 ((a.1.0 ≤ board_runs) × (a.1.0 ≤ length a.1.1.0.now)) _ (λ pre.
       walk 𝓛 at_mem run κs.0 qs.0 a.1.1.0.ref_ptr.0 a.1.1.0.ref_ptr.1 a.1.1.0.ghost_name a.1.1.0.now are.1.1.0.0.1 a.0 are.0 a.1.0 are.1.0.1 pre 𝓣 (fm_of 𝓤 H 𝓛.laws 𝓣) known))
 
   meets : Meets 𝓛 copy-runs.signature (WpFn 𝓤 H 𝓣.C 𝓣.Λ code.function) (copy-runs.spec 𝓛 at_mem run)

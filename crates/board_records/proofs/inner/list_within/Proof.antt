@@ -6,11 +6,11 @@ use borrow.Author.Rules.{rules}
 use borrow.Author.Tests.{le-leb, lt-leb}
 use lib.Dec.{leb}
 use lib.ListN.{length}
-use Rattle.board.specs.Boards.{live, Sound, told, toldTo}
+use Rattle.board.specs.Boards.{live, Sound, told, told_to}
 use Rattle.board.proofs.Arrays.{length-mapped}
 use Rattle.board.proofs.Fronts.{live-long}
 use Rattle.board.proofs.Sound.{sound-iff, sound_more}
-use Rattle.board_records.specs.Records.{bothListed, numbersTo}
+use Rattle.board_records.specs.Records.{both_listed, numbers_to}
 use Rattle.board_records.proofs.inner.list_within.Statement.{statement}
 use Rattle.board_records.proofs.inner.list_within.Tie as tie
 
@@ -30,7 +30,7 @@ list-sound-requires : tie.Need-list-sound-requires
 list-sound-requires c κs = let t = c.before.before.before in sound_more (sound t) t.before.before.requires
 
 returns : tie.Need-returns
-unfolding bothListed numbersTo told toldTo
+unfolding both_listed numbers_to told told_to
 returns c =
     let t2 = c.before.before.before in
     let t1 = t2.before.before in
@@ -40,7 +40,7 @@ returns c =
     rw (← t1.before.is-sound.ensures, t1.if1.true, records, and-true (leb (2 * runs) (length a.out.now))) c.before.list-sound.ensures
 
 returns-2 : tie.Need-returns-2
-unfolding bothListed numbersTo
+unfolding both_listed numbers_to
 returns-2 c =
     let t1 = c.before.before.before in
     let a = t1.before.before.args in
@@ -49,7 +49,7 @@ returns-2 c =
     rw (← t1.before.is-sound.ensures, t1.if1.true, few, and-false (leb (2 * runs) (length a.out.now))) (search rules)
 
 returns-3 : tie.Need-returns-3
-unfolding bothListed numbersTo
+unfolding both_listed numbers_to
 returns-3 c = rw (← c.before.before.is-sound.ensures, c.before.if1.false) (search rules)
 
 pub list-within-spec : {M : Type 1} → statement M

@@ -7,21 +7,21 @@ use Rattle.bresenham.proofs.inner.decrease_error.Tie as tie
 add-carried : tie.Need-overflow-add-carried
 add-carried c =
     let q = c.before.before.before.before.before.before.requires in
-    fits-add (hold-sub (hold q.1 tt) (hold q.0.gain-small tt) tt) (hold q.0.loss-small tt) tt
+    fits-add (hold-sub (hold q.1 tt) (hold q.0.gain_small tt) tt) (hold q.0.loss_small tt) tt
 
 returns : tie.Need-returns
 unfolding decreased
 returns c =
     let q = c.before.before.before.before.before.before.before.requires in
-    let moved = hold-sub (hold q.1 tt) (hold q.0.gain-small tt) tt in
-    cc (moved.is, (hold-neg (hold q.0.threshold-small tt) tt).is, (hold-add moved (hold q.0.loss-small tt) tt).is)
+    let moved = hold-sub (hold q.1 tt) (hold q.0.gain_small tt) tt in
+    cc (moved.is, (hold-neg (hold q.0.threshold_small tt) tt).is, (hold-add moved (hold q.0.loss_small tt) tt).is)
 
 pub decrease-error-spec : {M : Type 1} → statement M
 decrease-error-spec =
     tie.close
     (tie.spec
-    (λ c. let q = c.before.before.requires in fits_sub (hold q.1 tt) (hold q.0.gain-small tt) tt)
-    (λ c. fits_neg (hold c.before.before.before.before.requires.0.threshold-small tt) tt)
+    (λ c. let q = c.before.before.requires in fits_sub (hold q.1 tt) (hold q.0.gain_small tt) tt)
+    (λ c. fits_neg (hold c.before.before.before.before.requires.0.threshold_small tt) tt)
     add-carried
     (λ c κs. search rules)
     returns)

@@ -1,27 +1,27 @@
 use mathlib.Core.Path.{◌∙◌}
 use borrow.Author.Rules.{rules}
 use Rattle.whole.proofs.Machine.{hold, fits-add, fits_sub, hold-add, hold-sub}
-use Rattle.bresenham.specs.Walk.{nextAll}
+use Rattle.bresenham.specs.Walk.{next_all}
 use Rattle.bresenham.proofs.inner.next_all.Statement.{statement}
 use Rattle.bresenham.proofs.inner.next_all.Tie as tie
 
 sub-t8 : tie.Need-overflow-sub-t8
-sub-t8 c = let q = c.before.before.before.before.before.requires in fits_sub (hold q.1.error-small tt) (hold q.0.loss-small tt) tt
+sub-t8 c = let q = c.before.before.before.before.before.requires in fits_sub (hold q.1.error_small tt) (hold q.0.loss_small tt) tt
 
 add-t8 : tie.Need-overflow-add-t8
-add-t8 c = let q = c.before.before.before.before.before.before.before.before.requires in fits-add (hold q.1.error-small tt) (hold q.0.gain-small tt) tt
+add-t8 c = let q = c.before.before.before.before.before.before.before.before.requires in fits-add (hold q.1.error_small tt) (hold q.0.gain_small tt) tt
 
 returns : tie.Need-returns
-unfolding nextAll
+unfolding next_all
 returns c =
     let q = c.before.before.before.before.before.before.before.before.before.before.before.requires in
-    let error = hold q.1.error-small tt in
+    let error = hold q.1.error_small tt in
     c.met.ensures
     ∙ rw (
-      (hold-sub error (hold q.0.loss-small tt) tt).is,
-      (hold-add error (hold q.0.gain-small tt) tt).is,
+      (hold-sub error (hold q.0.loss_small tt) tt).is,
+      (hold-add error (hold q.0.gain_small tt) tt).is,
       error.is,
-      (hold q.0.threshold-small tt).is,
+      (hold q.0.threshold_small tt).is,
       c.before.before.before.before.before.before.before.before.plus.ensures,
       c.before.before.before.before.before.plus2.ensures,
     )

@@ -1,7 +1,7 @@
 use mathlib.Core.Path.{◌∙◌, ap}
 use lib.Dec.{lit≤}
 use Rattle.shapes.proofs.Laws.{near-more, near-delta, line-near-more}
-use Rattle.bresenham.specs.Walk.{parametersAlong, parametersOf}
+use Rattle.bresenham.specs.Walk.{parameters_along, parameters_of}
 use Rattle.bresenham.proofs.inner.parameters.Statement.{statement}
 use Rattle.bresenham.proofs.inner.parameters.Tie as tie
 
@@ -12,8 +12,8 @@ parameters-along-requires : tie.Need-parameters-along-requires
 parameters-along-requires c κs = rw c.delta.ensures (near-more (near-delta c.before.requires) (lit≤ tt))
 
 returns : tie.Need-returns
-unfolding parametersOf
-returns c = c.parameters-along.ensures ∙ ap parametersAlong c.before.delta.ensures
+unfolding parameters_of
+returns c = c.parameters-along.ensures ∙ ap parameters_along c.before.delta.ensures
 
 pub parameters-spec : {M : Type 1} → statement M
 parameters-spec = tie.close (tie.spec delta-requires parameters-along-requires returns)

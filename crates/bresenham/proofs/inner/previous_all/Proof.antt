@@ -1,30 +1,30 @@
 use mathlib.Core.Path.{◌∙◌}
 use borrow.Author.Rules.{rules}
 use Rattle.whole.proofs.Machine.{hold, fits-add, fits_sub, fits_neg, hold-add, hold-sub, hold-neg}
-use Rattle.bresenham.specs.Walk.{previousAll}
+use Rattle.bresenham.specs.Walk.{previous_all}
 use Rattle.bresenham.proofs.inner.previous_all.Statement.{statement}
 use Rattle.bresenham.proofs.inner.previous_all.Tie as tie
 
 add-met : tie.Need-overflow-add-met
-add-met c = let q = c.before.before.before.before.before.requires in fits-add (hold q.1.error-small tt) (hold q.0.loss-small tt) tt
+add-met c = let q = c.before.before.before.before.before.requires in fits-add (hold q.1.error_small tt) (hold q.0.loss_small tt) tt
 
 sub-met : tie.Need-overflow-sub-met
-sub-met c = let q = c.before.before.before.before.before.before.before.before.requires in fits_sub (hold q.1.error-small tt) (hold q.0.gain-small tt) tt
+sub-met c = let q = c.before.before.before.before.before.before.before.before.requires in fits_sub (hold q.1.error_small tt) (hold q.0.gain_small tt) tt
 
 sub-met-2 : tie.Need-overflow-sub-met-2
-sub-met-2 c = fits_neg (hold c.before.before.before.before.before.before.before.before.before.before.requires.0.threshold-small tt) tt
+sub-met-2 c = fits_neg (hold c.before.before.before.before.before.before.before.before.before.before.requires.0.threshold_small tt) tt
 
 returns : tie.Need-returns
-unfolding previousAll
+unfolding previous_all
 returns c =
     let q = c.before.before.before.before.before.before.before.before.before.before.before.requires in
-    let error = hold q.1.error-small tt in
+    let error = hold q.1.error_small tt in
     c.met.ensures
     ∙ rw (
-      (hold-add error (hold q.0.loss-small tt) tt).is,
-      (hold-sub error (hold q.0.gain-small tt) tt).is,
+      (hold-add error (hold q.0.loss_small tt) tt).is,
+      (hold-sub error (hold q.0.gain_small tt) tt).is,
       error.is,
-      (hold-neg (hold q.0.threshold-small tt) tt).is,
+      (hold-neg (hold q.0.threshold_small tt) tt).is,
       c.before.before.before.before.before.before.before.before.minus.ensures,
       c.before.before.before.before.before.minus2.ensures,
     )

@@ -4,10 +4,10 @@ use mathlib.Core.Bool.{◌||◌}
 use Prim.Native.Nat.{◌+◌, ◌-◌, ◌<◌}
 use native.Mathlib.Omega.{arith}
 use borrow.Author.Rules.{rules}
-use Rattle.whole.specs.Places.{someFrom}
+use Rattle.whole.specs.Places.{some_from}
 use Rattle.whole.proofs.Places.{some_end, some_next}
-use Rattle.coordinates.specs.Points.{pointCount, segmentsOf}
-use Rattle.coordinates.specs.Neighbours.{isRepeated, isDoubled}
+use Rattle.coordinates.specs.Points.{point_count, segments_of}
+use Rattle.coordinates.specs.Neighbours.{is_repeated, is_doubled}
 use Rattle.coordinates.proofs.Neighbours.{segment-inside}
 use Rattle.coordinates.proofs.Places.{after-inside}
 use Rattle.coordinates.proofs.inner.is_doubled.Statement.{statement}
@@ -15,36 +15,36 @@ use Rattle.coordinates.proofs.inner.is_doubled.Tie as tie
 
 abbrev invariant-loop : tie.invariant-loop
 invariant-loop coordinates closed count segments place₀ place =
-    someFrom (isRepeated coordinates) place (segments - place) ≡ isDoubled closed coordinates
+    some_from (is_repeated coordinates) place (segments - place) ≡ is_doubled closed coordinates
 
 abbrev decreases-loop : tie.decreases-loop
 decreases-loop coordinates closed count segments place₀ place = segments - place
 
 -- the segments are those of the list
-counted : (c : tie.After-segments-of invariant-loop decreases-loop) → let a = c.before.before.args in c.segments-of.result ≡ segmentsOf a.closed (pointCount a.coordinates.now)
+counted : (c : tie.After-segments-of invariant-loop decreases-loop) → let a = c.before.before.args in c.segments-of.result ≡ segments_of a.closed (point_count a.coordinates.now)
 counted c =
-    let told : c.segments-of.result ≡ segmentsOf c.before.before.args.closed c.before.point-count.result = c.segments-of.ensures in
-    told ∙ ap (segmentsOf c.before.before.args.closed) c.before.point-count.ensures
+    let told : c.segments-of.result ≡ segments_of c.before.before.args.closed c.before.point-count.result = c.segments-of.ensures in
+    told ∙ ap (segments_of c.before.before.args.closed) c.before.point-count.ensures
 
 -- each begins at a point, and ends at one
-begins : (c : tie.In-loop invariant-loop decreases-loop) → let l = c.before in l.loop.place < pointCount l.before.before.before.args.coordinates.now
+begins : (c : tie.In-loop invariant-loop decreases-loop) → let l = c.before in l.loop.place < point_count l.before.before.before.args.coordinates.now
 begins c =
     let s = c.before.before in
     segment-inside s.before.before.args.closed (omega (arith, counted s))
 
 -- a point is doubled where the two points here are equal, or two of those after them
 here : (c : tie.After-same-point invariant-loop decreases-loop) → let l = c.before.before.before.before.before in let a = l.before.before.before.args in
-    (c.same_point.result || someFrom (isRepeated a.coordinates.now) (l.loop.place + 1) (l.before.segments-of.result - (l.loop.place + 1))) ≡ isDoubled a.closed a.coordinates.now
+    (c.same_point.result || some_from (is_repeated a.coordinates.now) (l.loop.place + 1) (l.before.segments-of.result - (l.loop.place + 1))) ≡ is_doubled a.closed a.coordinates.now
 here c =
     let l = c.before.before.before.before.before in
     let a = l.before.before.before.args in
-    let same : isRepeated a.coordinates.now l.loop.place ≡ c.same_point.result = cc in
-    sym (some_next (isRepeated a.coordinates.now) l.before.segments-of.result l.loop.place (omega arith) c.same_point.result same) ∙ l.loop.invariant
+    let same : is_repeated a.coordinates.now l.loop.place ≡ c.same_point.result = cc in
+    sym (some_next (is_repeated a.coordinates.now) l.before.segments-of.result l.loop.place (omega arith) c.same_point.result same) ∙ l.loop.invariant
 
 loop-holds : tie.Need-loop-init invariant-loop decreases-loop
-unfolding isDoubled
+unfolding is_doubled
 loop-holds c =
-    let all : c.segments-of.result - 0 ≡ segmentsOf c.before.before.args.closed (pointCount c.before.before.args.coordinates.now) = omega (arith, counted c) in
+    let all : c.segments-of.result - 0 ≡ segments_of c.before.before.args.closed (point_count c.before.before.args.coordinates.now) = omega (arith, counted c) in
     rw all
 
 point-at-requires : tie.Need-point-at-requires invariant-loop decreases-loop
@@ -65,7 +65,7 @@ loop-again c = rw c.if1.false at (here c.before)
 returns-2 : tie.Need-returns-2 invariant-loop decreases-loop
 returns-2 c =
     let l = c.before in
-    sym (some_end (isRepeated l.before.before.before.args.coordinates.now) l.before.segments-of.result l.loop.place (omega arith)) ∙ l.loop.invariant
+    sym (some_end (is_repeated l.before.before.before.args.coordinates.now) l.before.segments-of.result l.loop.place (omega arith)) ∙ l.loop.invariant
 
 pub is-doubled-spec : {M : Type 1} → statement M
 is-doubled-spec = tie.close (tie.spec invariant-loop decreases-loop (λ c κs. search rules) (λ c κs. search rules) loop-holds point-at-requires place-after-requires point-at-requires-2 (λ c κs. search rules) returns (λ c. search rules) (λ c. omega arith) loop-again returns-2)

@@ -1,17 +1,17 @@
 -- `coordinates::inner::place_after` meets its contract. Assumes nothing.
 use Prim.Native.Nat.{◌+◌}
 use borrow.Author.Tests.{eq-eqb, ne_eqb}
-use Rattle.coordinates.specs.Points.{placeAfter}
+use Rattle.coordinates.specs.Points.{place_after}
 use borrow.Author.Rules.{rules}
 use Rattle.coordinates.proofs.inner.place_after.Statement.{statement}
 use Rattle.coordinates.proofs.inner.place_after.Tie as tie
 
 returns : tie.Need-returns
-unfolding placeAfter
+unfolding place_after
 returns c = rw (eq-eqb (c.before.args.i + 1) c.before.args.count c.if1.true)
 
 returns-2 : tie.Need-returns-2
-unfolding placeAfter
+unfolding place_after
 returns-2 c = rw (ne_eqb (c.before.args.i + 1) c.before.args.count c.if1.false)
 
 pub place-after-spec : {M : Type 1} → statement M

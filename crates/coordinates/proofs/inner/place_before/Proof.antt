@@ -1,16 +1,16 @@
 -- `coordinates::inner::place_before` meets its contract. Assumes nothing.
 use borrow.Author.Tests.{eq-eqb, ne_eqb}
-use Rattle.coordinates.specs.Points.{placeBefore}
+use Rattle.coordinates.specs.Points.{place_before}
 use borrow.Author.Rules.{rules}
 use Rattle.coordinates.proofs.inner.place_before.Statement.{statement}
 use Rattle.coordinates.proofs.inner.place_before.Tie as tie
 
 returns : tie.Need-returns
-unfolding placeBefore
+unfolding place_before
 returns c = rw (eq-eqb c.before.args.i 0 c.if1.true)
 
 returns-2 : tie.Need-returns-2
-unfolding placeBefore
+unfolding place_before
 returns-2 c = rw (ne_eqb c.before.args.i 0 c.if1.false)
 
 pub place-before-spec : {M : Type 1} → statement M

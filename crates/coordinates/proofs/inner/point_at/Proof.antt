@@ -4,7 +4,7 @@ use lib.IntN.{pos}
 use lib.ListN.{length, get_or}
 use mir.Syntax.{w64}
 use mir.Facts.{to_z-of_z}
-use Rattle.coordinates.specs.Points.{pointAt}
+use Rattle.coordinates.specs.Points.{point_at}
 use Rattle.coordinates.proofs.Lists.{point-inside}
 use borrow.Author.Rules.{rules}
 use Rattle.coordinates.proofs.inner.point_at.Statement.{statement}
@@ -36,7 +36,7 @@ shared-slice-copy-out-t11 : tie.Need-shared-slice-copy-out-t11
 shared-slice-copy-out-t11 c = inside c.before
 
 returns : tie.Need-returns
-unfolding pointAt
+unfolding point_at
 returns c = simp (to_z-of_z {w = w64} {z = get_or c.before.before.args.coordinates.now (2 * c.before.before.args.i) (pos 0)} (search rules), to_z-of_z {w = w64} {z = get_or c.before.before.args.coordinates.now (2 * c.before.before.args.i + 1) (pos 0)} (search rules))
 
 pub point-at-spec : {M : Type 1} → statement M

@@ -13,14 +13,14 @@ plus-requires c κs =
     (near-more q.1.1 (lit≤ tt), rw c.delta.ensures (near-more (near-delta q.0) (lit≤ tt)))
 
 plus-requires-2 : tie.Need-plus-requires-2
-plus-requires-2 c κs = let q = c.before.before.before.before.requires in (near-more q.1.0.major-near (lit≤ tt), near-more q.1.0.minor-near (lit≤ tt))
+plus-requires-2 c κs = let q = c.before.before.before.before.requires in (near-more q.1.0.major_near (lit≤ tt), near-more q.1.0.minor_near (lit≤ tt))
 
 minus-requires : tie.Need-minus-requires
 minus-requires c κs =
     let whole = c.before.before in
     let q = whole.before.before.before.requires in (
       rw (whole.plus.ensures, whole.before.delta.ensures) (near-more (near-plus q.1.1 (near-delta q.0)) (lit≤ tt)),
-      rw c.plus2.ensures (near-more (near-plus q.1.0.major-near q.1.0.minor-near) (lit≤ tt)),
+      rw c.plus2.ensures (near-more (near-plus q.1.0.major_near q.1.0.minor_near) (lit≤ tt)),
     )
 
 returns : tie.Need-returns

@@ -2,17 +2,17 @@ use mathlib.Core.Path.{◌≡◌}
 use borrow.Author.Rules.{rules}
 use lib.Dec.{lit≤}
 use Rattle.whole.proofs.Machine.{hold}
-use Rattle.shapes.specs.Limits.{lineLimit, thickLimit}
+use Rattle.shapes.specs.Limits.{line_limit, thick_limit}
 use Rattle.shapes.specs.declared.Point.{Point}
 use Rattle.shapes.specs.Shape.{Near, LineNear}
 use Rattle.shapes.proofs.Laws.{near-more}
-use Rattle.bresenham.specs.Walk.{stepLimit, Sized}
-use Rattle.parallels.specs.Parallels.{plan_of, parallelsOf, Sound}
+use Rattle.bresenham.specs.Walk.{step_limit, Sized}
+use Rattle.parallels.specs.Parallels.{plan_of, parallels_of, Sound}
 use Rattle.parallels.proofs.Steps.{Away}
 use Rattle.parallels.proofs.Laws.{shift}
 use Rattle.parallels.proofs.Plans.{sound-plan}
 use Rattle.parallels.proofs.Room.{sized, near-away, begun-start}
-use Rattle.extents.specs.Edges.{freshEnds, lasts, extentsOf}
+use Rattle.extents.specs.Edges.{fresh_ends, lasts, extents_of}
 use Rattle.extents.proofs.Laws.{EndsAway, ends-away}
 use Rattle.extents.proofs.inner.extents.Statement.{statement}
 use Rattle.extents.proofs.inner.extents.Tie as tie
@@ -24,37 +24,37 @@ plan-of-requires c κs = let w = hold c.requires.1 tt in (c.requires.0, rw w.is 
 planned : (c : tie.After-plan-of) → let a = c.before.args in c.plan-of.result ≡ plan_of a.line a.width a.offset
 planned c = rw (hold c.before.requires.1 tt).is at c.plan-of.ensures
 
-sound : (c : tie.After-plan-of) → Sound thickLimit c.plan-of.result
+sound : (c : tie.After-plan-of) → Sound thick_limit c.plan-of.result
 sound c =
     let a = c.before.args in
     rw (planned c) (sound-plan a.line a.width a.offset c.before.requires.0 c.before.requires.1.bound)
 
 start-requires : tie.Need-start-requires
-start-requires c κs = (sound c, c.before.requires.0.start-near)
+start-requires c κs = (sound c, c.before.requires.0.start_near)
 
 last-ends-requires : tie.Need-last-ends-requires
 last-ends-requires c κs =
     let p = c.before.before in
-    (sound p, rw c.before.start.ensures (begun-start (sound p) p.before.requires.0.start-near))
+    (sound p, rw c.before.start.ensures (begun-start (sound p) p.before.requires.0.start_near))
 
-lasted : (c : tie.After-last-ends) → let a = c.before.before.before.before.args in c.last-ends.result ≡ lasts (freshEnds a.line) (parallelsOf a.line a.width a.offset)
-unfolding parallelsOf
+lasted : (c : tie.After-last-ends) → let a = c.before.before.before.before.args in c.last-ends.result ≡ lasts (fresh_ends a.line) (parallels_of a.line a.width a.offset)
+unfolding parallels_of
 lasted c = rw (c.last-ends.ensures, c.before.fresh-ends.ensures, c.before.before.start.ensures, planned c.before.before.before)
 
-away : (c : tie.After-last-ends) → EndsAway c.before.before.before.before.args.line.start (shift thickLimit) c.last-ends.result
+away : (c : tie.After-last-ends) → EndsAway c.before.before.before.before.args.line.start (shift thick_limit) c.last-ends.result
 away c =
     let s = c.before.before.before.before in
-    rw (lasted c) (ends-away lineLimit thickLimit s.args.line s.args.width s.args.offset s.requires.0 (lit≤ tt) s.requires.1.bound)
+    rw (lasted c) (ends-away line_limit thick_limit s.args.line s.args.width s.args.offset s.requires.0 (lit≤ tt) s.requires.1.bound)
 
 -- what an edge is closed with
 closing : (c : tie.After-last-ends) {q : Point} →
     let p = c.before.before.before in
     let l = p.before.args.line in
-    Away l.start (shift thickLimit) q → LineNear lineLimit l × (Sized p.plan-of.result.parallel × Near stepLimit q)
+    Away l.start (shift thick_limit) q → LineNear line_limit l × (Sized p.plan-of.result.parallel × Near step_limit q)
 closing c a =
     let p = c.before.before.before in
     let q = p.before.requires.0 in
-    (q, (sized (sound p).along-fair, near-more (near-away q.start-near a) (lit≤ tt)))
+    (q, (sized (sound p).along_fair, near-more (near-away q.start_near a) (lit≤ tt)))
 
 close-requires : tie.Need-close-requires
 close-requires c κs = closing c (away c).left-away
@@ -63,7 +63,7 @@ close-requires-2 : tie.Need-close-requires-2
 close-requires-2 c κs = closing c.before (away c.before).right-away
 
 returns : tie.Need-returns
-unfolding extentsOf
+unfolding extents_of
 returns c =
     let last = c.before.before in
     rw (c.before.close.ensures, c.close2.ensures, lasted last, planned last.before.before.before)

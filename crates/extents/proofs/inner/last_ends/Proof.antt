@@ -2,8 +2,8 @@
 -- were asked for. Assumes nothing.
 use mathlib.Core.Path.{◌≡◌, refl, sym, ◌∙◌}
 use mathlib.Core.Bool.{false}
-use Rattle.shapes.specs.Limits.{thickLimit}
-use Rattle.parallels.specs.Parallels.{Begun, isDone, spare, parallels}
+use Rattle.shapes.specs.Limits.{thick_limit}
+use Rattle.parallels.specs.Parallels.{Begun, is_done, spare, parallels}
 use Rattle.parallels.proofs.Room.{begun-next, begun-less}
 use Rattle.extents.specs.Edges.{lasts}
 use Rattle.extents.proofs.Laws.{lasts-end, lasts-turn}
@@ -11,7 +11,7 @@ use Rattle.extents.proofs.inner.last_ends.Statement.{statement}
 use Rattle.extents.proofs.inner.last_ends.Tie as tie
 
 abbrev invariant-loop : tie.invariant-loop
-invariant-loop plan at₀ last₀ at last = Begun thickLimit plan at × (lasts last (parallels plan at) ≡ lasts last₀ (parallels plan at₀))
+invariant-loop plan at₀ last₀ at last = Begun thick_limit plan at × (lasts last (parallels plan at) ≡ lasts last₀ (parallels plan at₀))
 
 abbrev decreases-loop : tie.decreases-loop
 decreases-loop plan at₀ last₀ at last = spare plan at
@@ -26,7 +26,7 @@ next-requires : tie.Need-next-requires invariant-loop decreases-loop
 next-requires c κs = (c.before.before.before.requires.0, c.before.before.loop.invariant.0)
 
 -- where the loop goes on, a parallel follows
-follows : (c : tie.Else1 invariant-loop decreases-loop) → let l = c.before.before in isDone l.before.args.plan l.loop.at ≡ false
+follows : (c : tie.Else1 invariant-loop decreases-loop) → let l = c.before.before in is_done l.before.args.plan l.loop.at ≡ false
 follows c = sym c.before.is-done.ensures ∙ c.if1.false
 
 loop-less : tie.Need-loop-smaller invariant-loop decreases-loop

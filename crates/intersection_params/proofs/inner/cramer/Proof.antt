@@ -9,7 +9,7 @@ use Rattle.whole.proofs.Machine.{hold}
 use Rattle.shapes.specs.declared.Point.{Point}
 use Rattle.shapes.specs.Shape.{determinant}
 use Rattle.shapes.proofs.Laws.{x-held, y-held, near-held, point-held}
-use Rattle.intersection_params.specs.Crossing.{cramerOf}
+use Rattle.intersection_params.specs.Crossing.{cramer_of}
 use Rattle.intersection_params.proofs.inner.cramer.Statement.{statement}
 use Rattle.intersection_params.proofs.inner.cramer.Tie as tie
 
@@ -22,24 +22,24 @@ both e f = cc
 determinant-requires-2 : tie.Need-determinant-requires-2
 determinant-requires-2 c κs =
     let t = (start c).requires in (
-      near-held (hold t.0.distance-within tt) (hold t.1.distance-within tt) (lit≤ tt) (lit≤ tt),
-      near-held (y-held t.0.normal-near tt) (y-held t.1.normal-near tt) (lit≤ tt) (lit≤ tt),
+      near-held (hold t.0.distance_within tt) (hold t.1.distance_within tt) (lit≤ tt) (lit≤ tt),
+      near-held (y-held t.0.normal_near tt) (y-held t.1.normal_near tt) (lit≤ tt) (lit≤ tt),
     )
 
 determinant-requires-3 : tie.Need-determinant-requires-3
 determinant-requires-3 c κs =
     let t = (start c.before).requires in (
-      near-held (x-held t.0.normal-near tt) (x-held t.1.normal-near tt) (lit≤ tt) (lit≤ tt),
-      near-held (hold t.0.distance-within tt) (hold t.1.distance-within tt) (lit≤ tt) (lit≤ tt),
+      near-held (x-held t.0.normal_near tt) (x-held t.1.normal_near tt) (lit≤ tt) (lit≤ tt),
+      near-held (hold t.0.distance_within tt) (hold t.1.distance_within tt) (lit≤ tt) (lit≤ tt),
     )
 
 returns : tie.Need-returns
-unfolding cramerOf
+unfolding cramer_of
 returns c =
     let t = (start c.before.before).requires in
-    let distances = point-held (hold t.0.distance-within tt) (hold t.1.distance-within tt) in
-    let xs = point-held (x-held t.0.normal-near tt) (x-held t.1.normal-near tt) in
-    let ys = point-held (y-held t.0.normal-near tt) (y-held t.1.normal-near tt) in
+    let distances = point-held (hold t.0.distance_within tt) (hold t.1.distance_within tt) in
+    let xs = point-held (x-held t.0.normal_near tt) (x-held t.1.normal_near tt) in
+    let ys = point-held (y-held t.0.normal_near tt) (y-held t.1.normal_near tt) in
     simp (
       to_z-of_z {w = w64} {z = c.before.before.determinant.result} (search rules) ∙ c.before.before.determinant.ensures,
       to_z-of_z {w = w64} {z = c.before.determinant2.result} (search rules) ∙ c.before.determinant2.ensures ∙ both distances ys,

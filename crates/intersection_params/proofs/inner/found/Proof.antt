@@ -1,26 +1,26 @@
 use mathlib.Core.Path.{◌≡◌, sym, ap, ◌∙◌}
 use borrow.Author.Rules.{rules}
 use Rattle.intersection_params.specs.declared.Intersection.TheVariants.{At}
-use Rattle.intersection_params.specs.Crossing.{drawnOf, divisionsOf, withDivisions, foundOf}
+use Rattle.intersection_params.specs.Crossing.{drawn_of, divisions_of, with_divisions, found_of}
 use Rattle.intersection_params.proofs.Room.{some-drawn}
 use Rattle.intersection_params.proofs.inner.found.Statement.{statement}
 use Rattle.intersection_params.proofs.inner.found.Tie as tie
 
 -- where the solution is drawn
-drawn-at : (c : tie.After-point) → drawnOf c.before.before.before.args.solution ≡ At c.point.given.0.0 c.point.given.0.1.0
+drawn-at : (c : tie.After-point) → drawn_of c.before.before.before.args.solution ≡ At c.point.given.0.0 c.point.given.0.1.0
 drawn-at c = sym c.before.before.drawn.ensures ∙ c.point.given.1
 
 returns : tie.Need-returns
-unfolding foundOf
+unfolding found_of
 returns c =
     let s = c.before.before.before.args.solution in
-    sym (ap (withDivisions (divisionsOf s)) (sym c.before.before.drawn.ensures ∙ c.enum_told.given.1))
+    sym (ap (with_divisions (divisions_of s)) (sym c.before.before.drawn.ensures ∙ c.enum_told.given.1))
 
 divisions-requires : tie.Need-divisions-requires
 divisions-requires c κs = let s = c.before.before.before.before in (s.requires, some-drawn s.args.solution (drawn-at c.before))
 
 returns-2 : tie.Need-returns-2
-unfolding foundOf
+unfolding found_of
 returns-2 c = simp (c.divisions.ensures, drawn-at c.before.before)
 
 pub found-spec : {M : Type 1} → statement M

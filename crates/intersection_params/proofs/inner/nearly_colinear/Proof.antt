@@ -7,20 +7,20 @@ use mir.Syntax.{w64}
 use mir.Val.{of_z}
 use Rattle.whole.proofs.Bounds.{within_more}
 use Rattle.whole.proofs.Machine.{Hold, hold, hold-as, fits-mul, hold-mul}
-use Rattle.shapes.specs.Shape.{dotProduct, delta}
+use Rattle.shapes.specs.Shape.{dot_product, delta}
 use Rattle.shapes.proofs.Laws.{near-more, near-delta, within-dot}
-use Rattle.intersection_params.specs.Crossing.{solutionOf, nearlyColinear}
+use Rattle.intersection_params.specs.Crossing.{solution_of, nearly_colinear}
 use Rattle.intersection_params.proofs.Room.{solution-roomy}
 use Rattle.intersection_params.proofs.inner.nearly_colinear.Statement.{statement}
 use Rattle.intersection_params.proofs.inner.nearly_colinear.Tie as tie
 
-determinant : (c : tie.After-solve) → Hold (of_z w64 c.solve.result.determinant) (solutionOf c.before.args.first c.before.args.second).determinant (2 ^ 31)
-determinant c = rw c.solve.ensures (hold (solution-roomy c.before.requires.0 c.before.requires.1).determinant-within tt)
+determinant : (c : tie.After-solve) → Hold (of_z w64 c.solve.result.determinant) (solution_of c.before.args.first c.before.args.second).determinant (2 ^ 31)
+determinant c = rw c.solve.ensures (hold (solution-roomy c.before.requires.0 c.before.requires.1).determinant_within tt)
 
 abbrev start : tie.After-dot-product → tie.Start
 start c = c.before.before.before.before.before
 
-dot : (c : tie.After-dot-product) → Hold (of_z w64 c.dot-product.result) (dotProduct (delta (start c).args.first) (delta (start c).args.second)) (2 ^ 31)
+dot : (c : tie.After-dot-product) → Hold (of_z w64 c.dot-product.result) (dot_product (delta (start c).args.first) (delta (start c).args.second)) (2 ^ 31)
 dot c =
     hold-as (c.dot-product.ensures ∙ cc (c.before.before.delta.ensures, c.before.delta2.ensures)) (within-dot (near-delta (start c).requires.0) (near-delta (start c).requires.1)) tt
 
@@ -36,7 +36,7 @@ magnitude-requires : tie.Need-magnitude-requires
 magnitude-requires c κs = rw (dot c).is (within_more (dot c).small (lit≤ tt))
 
 returns : tie.Need-returns
-unfolding nearlyColinear
+unfolding nearly_colinear
 returns c =
     let d = determinant c.before.before.before.before.before in
     rw ((hold-mul d d tt).is, to_z-of_z {w = w64} {z = c.magnitude.result} (search rules), c.magnitude.ensures, (dot c.before).is)

@@ -1,7 +1,7 @@
 use mathlib.Core.Path.{◌∙◌}
 use borrow.Author.Rules.{rules}
 use Rattle.linear_equation.proofs.Laws.{tame}
-use Rattle.intersection_params.specs.Crossing.{solutionOf}
+use Rattle.intersection_params.specs.Crossing.{solution_of}
 use Rattle.intersection_params.proofs.inner.solve.Statement.{statement}
 use Rattle.intersection_params.proofs.inner.solve.Tie as tie
 
@@ -11,7 +11,7 @@ cramer-requires c κs =
     (rw c.before.from-line.ensures (tame t.0), rw c.from-line2.ensures (tame t.1))
 
 returns : tie.Need-returns
-unfolding solutionOf
+unfolding solution_of
 returns c = c.cramer.ensures ∙ cc (c.before.before.from-line.ensures, c.before.from-line2.ensures)
 
 pub solve-spec : {M : Type 1} → statement M

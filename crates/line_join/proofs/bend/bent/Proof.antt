@@ -3,14 +3,14 @@ use borrow.Author.Rules.{rules}
 use Rattle.intersection_params.specs.declared.Intersection.TheVariants.{At}
 use Rattle.line_join.specs.declared.Origin.{Origin}
 use Rattle.line_join.specs.declared.Join.{Join}
-use Rattle.line_join.specs.Origins.{tracedBy}
-use Rattle.line_join.specs.Join.{cornersOf, meet, bentAt, bentOf}
+use Rattle.line_join.specs.Origins.{traced_by}
+use Rattle.line_join.specs.Join.{corners_of, meet, bent_at, bent_of}
 use Rattle.line_join.proofs.Room.{Inside, meet-room}
 use Rattle.shapes.proofs.Widths.{thin-held, thin-back}
 use Rattle.line_join.proofs.bend.bent.Statement.{statement}
 use Rattle.line_join.proofs.bend.bent.Tie as tie
 
-all : {l m r s : Origin} {j k : Join} → l ≡ m → r ≡ s → j ≡ k → tracedBy l r j ≡ tracedBy m s k
+all : {l m r s : Origin} {j k : Join} → l ≡ m → r ≡ s → j ≡ k → traced_by l r j ≡ traced_by m s k
 all e f g = cc
 
 -- what the left and the right edges meet at
@@ -24,22 +24,22 @@ right c = ap (λ m. m.found) c.meet2.ensures
 left_at : (c : tie.After-found-left) → let a = c.before.before.before.before.args in meet a.second.left a.first.left ≡ At c.found_left.given.0.0 c.found_left.given.0.1.0
 left_at c = sym (left c.before.before.before) ∙ c.found_left.given.1
 
-right-at : (c : tie.After-found-right) → let a = c.before.before.before.before.before.before.before.args in meet a.second.right a.first.right ≡ At c.found_right.given.0.0 c.found_right.given.0.1.0
-right-at c = sym (right c.before.before.before.before.before) ∙ c.found_right.given.1
+right_at : (c : tie.After-found-right) → let a = c.before.before.before.before.before.before.before.args in meet a.second.right a.first.right ≡ At c.found_right.given.0.0 c.found_right.given.0.1.0
+right_at c = sym (right c.before.before.before.before.before) ∙ c.found_right.given.1
 
 -- the join's origins are those of the two meetings
-with-origins : (c : tie.After-traced) → let m = c.before.before.before.before.before.before.before.before in c.traced.result ≡ tracedBy m.before.meet.result.origin m.meet2.result.origin c.before.bent-at.result
+with-origins : (c : tie.After-traced) → let m = c.before.before.before.before.before.before.before.before in c.traced.result ≡ traced_by m.before.meet.result.origin m.meet2.result.origin c.before.bent-at.result
 with-origins c = c.traced.ensures
 
 returns : tie.Need-returns
-unfolding bentOf
+unfolding bent_of
 returns c =
     let told = c.before in
     let none = sym (left told.before.before.before) ∙ told.enum_told.given.1 in
     c.at-edges.ensures ∙ simp none
 
 returns-2 : tie.Need-returns-2
-unfolding bentOf
+unfolding bent_of
 returns-2 c =
     let told = c.before in
     let l = told.before.before.before in
@@ -54,11 +54,11 @@ bent-at-requires c κs =
     let f = t.0 in
     let s = t.1.0 in (
       f,
-      (s, (record { left_near = subst Inside (left_at l) (meet-room s.left_near f.left_near); right_near = subst Inside (right-at r) (meet-room s.right_near f.right_near) }, ((t.1.1.0, thin-back t.1.1.1)))),
+      (s, (record { left_near = subst Inside (left_at l) (meet-room s.left_near f.left_near); right_near = subst Inside (right_at r) (meet-room s.right_near f.right_near) }, ((t.1.1.0, thin-back t.1.1.1)))),
     )
 
 returns-3 : tie.Need-returns-3
-unfolding bentOf
+unfolding bent_of
 returns-3 c =
     let b = c.before in
     let r = b.before.before in
@@ -66,10 +66,10 @@ returns-3 c =
     let m = l.before.before in
     let a = m.before.before.args in
     let width = (thin-held m.before.before.requires.1.1.1).is in
-    let join = b.bent-at.ensures ∙ ap (bentAt l.found_left.given.0.1.0 (cornersOf l.found_left.given.0.0 r.found_right.given.0.0) a.first a.second a.mid) width in
+    let join = b.bent-at.ensures ∙ ap (bent_at l.found_left.given.0.1.0 (corners_of l.found_left.given.0.0 r.found_right.given.0.0) a.first a.second a.mid) width in
     with-origins c
     ∙ all (ap (λ x. x.origin) m.before.meet.ensures) (ap (λ x. x.origin) m.meet2.ensures) join
-    ∙ simp (left_at l, right-at r)
+    ∙ simp (left_at l, right_at r)
 
 pub bent-spec : {M : Type 1} → statement M
 bent-spec =

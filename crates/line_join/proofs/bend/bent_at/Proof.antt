@@ -4,7 +4,7 @@ use lib.IntN.{ℤ}
 use borrow.Author.Rules.{rules}
 use Rattle.shapes.specs.declared.Point.{Point}
 use Rattle.line_join.specs.Miter.{reaches}
-use Rattle.line_join.specs.Join.{overlapping, outer, bentAt}
+use Rattle.line_join.specs.Join.{overlapping, outer, bent_at}
 use Rattle.shapes.proofs.Widths.{thin-held, thin-back}
 use Rattle.line_join.proofs.Room.{outer-near}
 use Rattle.line_join.proofs.bend.bent_at.Statement.{statement}
@@ -22,7 +22,7 @@ short : (c : tie.After-is-short) → c.is-short.result ≡ reaches c.before.befo
 short c = c.is-short.ensures ∙ both c.before.before.before.before.args.mid c.before.outer-corner.ensures (thin-held c.before.before.before.before.requires.1.1.1.1).is
 
 returns : tie.Need-returns
-unfolding bentAt
+unfolding bent_at
 returns c = c.at-edges.ensures ∙ simp (sym c.before.before.overlap.ensures ∙ c.before.if1.true)
 
 is-short-requires : tie.Need-is-short-requires
@@ -32,13 +32,13 @@ is-short-requires c κs =
     (t.1.0, (rw c.outer-corner.ensures (outer-near s.args.side t.0), thin-back t.1.1))
 
 returns-2 : tie.Need-returns-2
-unfolding bentAt
+unfolding bent_at
 returns-2 c =
     let e = c.before.before in
     c.same-corners.ensures ∙ simp (apart e.before, sym (short e) ∙ c.before.if2.true)
 
 returns-3 : tie.Need-returns-3
-unfolding bentAt
+unfolding bent_at
 returns-3 c =
     let e = c.before.before in
     c.bevel.ensures ∙ simp (apart e.before, sym (short e) ∙ c.before.if2.false)

@@ -1,6 +1,6 @@
 use mathlib.Core.Path.{sym, ap}
 use borrow.Author.Rules.{rules}
-use Rattle.line_join.specs.Join.{cutOff}
+use Rattle.line_join.specs.Join.{cut_off}
 use Rattle.line_join.proofs.bend.cut_off.Statement.{statement}
 use Rattle.line_join.proofs.bend.cut_off.Tie as tie
 
@@ -8,13 +8,13 @@ returns : tie.Need-returns
 returns c =
     let told = c.before.before in
     let a = told.before.before.args in
-    ap (λ s. cutOff s a.edge a.crossing) (sym told.enum_told.given.1)
+    ap (λ s. cut_off s a.edge a.crossing) (sym told.enum_told.given.1)
 
 returns-2 : tie.Need-returns-2
 returns-2 c =
     let told = c.before.before in
     let a = told.before.before.args in
-    ap (λ s. cutOff s a.edge a.crossing) (sym told.enum-told2.given.1)
+    ap (λ s. cut_off s a.edge a.crossing) (sym told.enum-told2.given.1)
 
 pub cut-off-spec : {M : Type 1} → statement M
 cut-off-spec = tie.close (tie.spec (λ c. search rules) (λ c. search rules) returns returns-2)

@@ -1,6 +1,6 @@
 use mathlib.Core.Path.{◌≡◌, sym, ap, ◌∙◌}
 use borrow.Author.Rules.{rules}
-use Rattle.intersection_params.specs.Crossing.{drawnOf, crossing_of, divisionsOf}
+use Rattle.intersection_params.specs.Crossing.{drawn_of, crossing_of, divisions_of}
 use Rattle.intersection_params.proofs.Room.{solution-roomy, some-drawn}
 use Rattle.line_join.specs.Origins.{origin_of}
 use Rattle.line_join.specs.Join.{meet}
@@ -10,7 +10,7 @@ use Rattle.line_join.proofs.bend.meet.Tie as tie
 -- what is drawn of the edges' solution
 crossed : (c : tie.After-drawn) → let a = c.before.before.before.args in c.drawn.result ≡ crossing_of a.second a.first
 unfolding crossing_of
-crossed c = c.drawn.ensures ∙ ap drawnOf c.before.solve.ensures
+crossed c = c.drawn.ensures ∙ ap drawn_of c.before.solve.ensures
 
 drawn-requires : tie.Need-drawn-requires
 drawn-requires c κs = let t = c.before.before.requires in rw c.solve.ensures (solution-roomy t.0 t.1)
@@ -39,7 +39,7 @@ returns-3 c =
     let else = c.before in
     let at = else.before.before.before in
     let d = at.before.before in
-    simp (sym (crossed d) ∙ at.point.given.1, sym else.before.nearly-colinear.ensures ∙ else.if1.false, c.divisions.ensures ∙ ap divisionsOf d.before.solve.ensures)
+    simp (sym (crossed d) ∙ at.point.given.1, sym else.before.nearly-colinear.ensures ∙ else.if1.false, c.divisions.ensures ∙ ap divisions_of d.before.solve.ensures)
 
 pub meet-spec : {M : Type 1} → statement M
 meet-spec =

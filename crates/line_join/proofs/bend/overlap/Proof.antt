@@ -1,7 +1,7 @@
 use mathlib.Core.Path.{sym, ap, ◌∙◌}
 use borrow.Author.Rules.{rules}
 use Rattle.shapes.specs.declared.Side.TheVariants.{Left, Right}
-use Rattle.linear_equation.specs.Equation.{isOnSide}
+use Rattle.linear_equation.specs.Equation.{is_on_side}
 use Rattle.linear_equation.proofs.Laws.{tame}
 use Rattle.line_join.specs.Join.{overlapping}
 use Rattle.line_join.proofs.bend.overlap.Statement.{statement}
@@ -10,12 +10,12 @@ use Rattle.line_join.proofs.bend.overlap.Tie as tie
 check-side-requires : tie.Need-check-side-requires
 check-side-requires c κs =
     let t = c.before.before.before.before.requires in
-    (rw c.from-line.ensures (tame t.0.right_near), t.1.right_near.end-near)
+    (rw c.from-line.ensures (tame t.0.right_near), t.1.right_near.end_near)
 
 check-side-requires-2 : tie.Need-check-side-requires-2
 check-side-requires-2 c κs =
     let t = c.before.before.before.before.requires in
-    (rw c.from-line2.ensures (tame t.0.left_near), t.1.left_near.end-near)
+    (rw c.from-line2.ensures (tame t.0.left_near), t.1.left_near.end_near)
 
 returns : tie.Need-returns
 unfolding overlapping
@@ -23,7 +23,7 @@ returns c =
     let told = c.before.before.before in
     let a = told.before.before.args in
     c.check-side.ensures
-    ∙ ap (λ e. isOnSide e a.second.right.end Left) c.before.from-line.ensures
+    ∙ ap (λ e. is_on_side e a.second.right.end Left) c.before.from-line.ensures
     ∙ ap (λ s. overlapping s a.first a.second) (sym told.enum_told.given.1)
 
 returns-2 : tie.Need-returns-2
@@ -32,7 +32,7 @@ returns-2 c =
     let told = c.before.before.before in
     let a = told.before.before.args in
     c.check-side2.ensures
-    ∙ ap (λ e. isOnSide e a.second.left.end Right) c.before.from-line2.ensures
+    ∙ ap (λ e. is_on_side e a.second.left.end Right) c.before.from-line2.ensures
     ∙ ap (λ s. overlapping s a.first a.second) (sym told.enum-told2.given.1)
 
 pub overlap-spec : {M : Type 1} → statement M

@@ -1,10 +1,10 @@
 use borrow.Author.Rules.{rules}
-use Rattle.line_join.specs.Caps.{isCornersNear}
+use Rattle.line_join.specs.Caps.{is_corners_near}
 use Rattle.line_join.proofs.inner.are_corners_near.Statement.{statement}
 use Rattle.line_join.proofs.inner.are_corners_near.Tie as tie
 
 returns : tie.Need-returns
-unfolding isCornersNear
+unfolding is_corners_near
 returns c = cc
 
 pub are-corners-near-spec : {M : Type 1} → statement M

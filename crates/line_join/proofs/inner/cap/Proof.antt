@@ -1,17 +1,17 @@
 use mathlib.Core.Path.{◌≡◌, sym, ap, subst, ◌∙◌}
 use lib.Dec.{lit≤}
 use borrow.Author.Rules.{rules}
-use Rattle.shapes.specs.Limits.{lineLimit}
+use Rattle.shapes.specs.Limits.{line_limit}
 use Rattle.shapes.proofs.Laws.{line-near-more}
 use Rattle.line_join.specs.declared.Filler.TheVariants.{Filled}
-use Rattle.line_join.specs.Caps.{cappedBy, fillerOf, cap_of}
+use Rattle.line_join.specs.Caps.{capped_by, filler_of, cap_of}
 use Rattle.line_join.proofs.Others.{not-filled}
 use Rattle.line_join.proofs.Room.{FillerNear, filler-near}
 use Rattle.line_join.proofs.inner.cap.Statement.{statement}
 use Rattle.line_join.proofs.inner.cap.Tie as tie
 
 -- the filler line
-found : (c : tie.After-line) → fillerOf c.before.before.before.before.before.args.join ≡ Filled c.line.given.0.0
+found : (c : tie.After-line) → filler_of c.before.before.before.before.before.args.join ≡ Filled c.line.given.0.0
 found c = sym c.before.before.filler.ensures ∙ c.line.given.1
 
 returns : tie.Need-returns
@@ -19,12 +19,12 @@ unfolding cap_of
 returns c =
     let a = c.before.before.before.before.args in
     let x = c.before.filler in
-    sym (ap (λ f. cappedBy f a.corners) (sym x.ensures) ∙ not-filled x.result a.corners c.match.keys2)
+    sym (ap (λ f. capped_by f a.corners) (sym x.ensures) ∙ not-filled x.result a.corners c.match.keys2)
 
 midpoint-requires : tie.Need-midpoint-requires
 midpoint-requires c κs =
     let l = c.before in
-    line-near-more (subst (FillerNear lineLimit) (found l) (filler-near l.before.before.before.before.before.requires)) (lit≤ tt)
+    line-near-more (subst (FillerNear line_limit) (found l) (filler-near l.before.before.before.before.before.requires)) (lit≤ tt)
 
 returns-2 : tie.Need-returns-2
 unfolding cap_of

@@ -1,10 +1,10 @@
 use borrow.Author.Rules.{rules}
-use Rattle.line_join.specs.Caps.{endCapsOf}
+use Rattle.line_join.specs.Caps.{end_caps_of}
 use Rattle.line_join.proofs.inner.end_caps.Statement.{statement}
 use Rattle.line_join.proofs.inner.end_caps.Tie as tie
 
 returns : tie.Need-returns
-unfolding endCapsOf
+unfolding end_caps_of
 returns c = c.cap.ensures
 
 pub end-caps-spec : {M : Type 1} → statement M

@@ -1,27 +1,27 @@
 use mathlib.Core.Path.{sym, ap, ◌∙◌}
 use borrow.Author.Rules.{rules}
 use Rattle.line_join.specs.declared.Filler.TheVariants.{Filled}
-use Rattle.line_join.specs.Caps.{fillerBy, fillerOf}
+use Rattle.line_join.specs.Caps.{filler_by, filler_of}
 use Rattle.line_join.proofs.Others.{not-bevelled}
 use Rattle.line_join.proofs.inner.filler.Statement.{statement}
 use Rattle.line_join.proofs.inner.filler.Tie as tie
 
 returns : tie.Need-returns
-unfolding fillerOf
+unfolding filler_of
 returns c =
     let known = c.before.before in
     let j = known.before.before.args.join in
-    ap Filled c.outer-line.ensures ∙ ap (λ k. fillerBy k j.ending j.starting) (sym known.kind.given.1)
+    ap Filled c.outer-line.ensures ∙ ap (λ k. filler_by k j.ending j.starting) (sym known.kind.given.1)
 
 returns-2 : tie.Need-returns-2
-unfolding fillerOf
+unfolding filler_of
 returns-2 c =
     let known = c.before.before in
     let j = known.before.before.args.join in
-    ap Filled c.outer-line2.ensures ∙ ap (λ k. fillerBy k j.ending j.starting) (sym known.kind2.given.1)
+    ap Filled c.outer-line2.ensures ∙ ap (λ k. filler_by k j.ending j.starting) (sym known.kind2.given.1)
 
 returns-3 : tie.Need-returns-3
-unfolding fillerOf
+unfolding filler_of
 returns-3 c = let j = c.before.args.join in sym (not-bevelled j.kind j.ending j.starting c.match.keys3)
 
 pub filler-spec : {M : Type 1} → statement M

@@ -2,20 +2,20 @@ use mathlib.Core.Path.{◌≡◌, ap, ◌∙◌}
 use lib.Dec.{lit≤}
 use Rattle.shapes.specs.Shape.{line_of}
 use Rattle.shapes.proofs.Laws.{near-more}
-use Rattle.extents.specs.Edges.{extentsOf}
-use Rattle.line_join.specs.Join.{tracedOf, join_of}
+use Rattle.extents.specs.Edges.{extents_of}
+use Rattle.line_join.specs.Join.{traced_of, join_of}
 use Rattle.shapes.proofs.Widths.{thin-held, thin-back}
 use Rattle.line_join.proofs.Room.{extents-room, edges_room}
 use Rattle.line_join.proofs.inner.from_points.Statement.{statement}
 use Rattle.line_join.proofs.inner.from_points.Tie as tie
 
 -- the edges of the first line
-first : (c : tie.After-extents) → c.extents.result ≡ extentsOf (line_of c.before.args.a c.before.args.b) c.before.args.width c.before.args.offset
-first c = let a = c.before.args in c.extents.ensures ∙ ap (λ w. extentsOf (line_of a.a a.b) w a.offset) (thin-held c.before.requires.1.1.1).is
+first : (c : tie.After-extents) → c.extents.result ≡ extents_of (line_of c.before.args.a c.before.args.b) c.before.args.width c.before.args.offset
+first c = let a = c.before.args in c.extents.ensures ∙ ap (λ w. extents_of (line_of a.a a.b) w a.offset) (thin-held c.before.requires.1.1.1).is
 
 -- those of the second
-second : (c : tie.After-extents2) → c.extents2.result ≡ extentsOf (line_of c.before.before.args.b c.before.before.args.c) c.before.before.args.width c.before.before.args.offset
-second c = let a = c.before.before.args in c.extents2.ensures ∙ ap (λ w. extentsOf (line_of a.b a.c) w a.offset) (thin-held c.before.before.requires.1.1.1).is
+second : (c : tie.After-extents2) → c.extents2.result ≡ extents_of (line_of c.before.before.args.b c.before.before.args.c) c.before.before.args.width c.before.before.args.offset
+second c = let a = c.before.before.args in c.extents2.ensures ∙ ap (λ w. extents_of (line_of a.b a.c) w a.offset) (thin-held c.before.before.requires.1.1.1).is
 
 extents-requires : tie.Need-extents-requires
 extents-requires c κs = let t = c.requires in extents-room t.0 t.1.0 t.1.1.1
@@ -38,7 +38,7 @@ unfolding join_of
 returns c =
     let e = c.before in
     let s = e.before.before in
-    c.bent.ensures ∙ ap (tracedOf e.before.extents.result e.extents2.result s.args.b) (thin-held s.requires.1.1.1).is ∙ simp (first e.before, second e)
+    c.bent.ensures ∙ ap (traced_of e.before.extents.result e.extents2.result s.args.b) (thin-held s.requires.1.1.1).is ∙ simp (first e.before, second e)
 
 pub from-points-spec : {M : Type 1} → statement M
 from-points-spec = tie.close (tie.spec extents-requires extents-requires-2 bent-requires returns)

@@ -1,10 +1,10 @@
 use borrow.Author.Rules.{rules}
-use Rattle.line_join.specs.Caps.{isJoinNear}
+use Rattle.line_join.specs.Caps.{is_join_near}
 use Rattle.line_join.proofs.inner.is_join_near.Statement.{statement}
 use Rattle.line_join.proofs.inner.is_join_near.Tie as tie
 
 returns : tie.Need-returns
-unfolding isJoinNear
+unfolding is_join_near
 returns c = cc
 
 pub is-join-near-spec : {M : Type 1} → statement M

@@ -1,10 +1,10 @@
 use borrow.Author.Rules.{rules}
-use Rattle.line_join.specs.Caps.{startCapsOf}
+use Rattle.line_join.specs.Caps.{start_caps_of}
 use Rattle.line_join.proofs.inner.start_caps.Statement.{statement}
 use Rattle.line_join.proofs.inner.start_caps.Tie as tie
 
 returns : tie.Need-returns
-unfolding startCapsOf
+unfolding start_caps_of
 returns c = c.cap.ensures
 
 pub start-caps-spec : {M : Type 1} → statement M

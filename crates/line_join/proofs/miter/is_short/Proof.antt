@@ -14,10 +14,10 @@ use Rattle.whole.specs.Number.{Within}
 use Rattle.whole.proofs.Bounds.{within_more}
 use Rattle.whole.proofs.Linear.{linear, times}
 use Rattle.whole.proofs.Machine.{Hold, hold-as, literal, fits_sub, fits-mul, fits-add, hold-sub, hold-mul, hold-add, lt-hold}
-use Rattle.shapes.specs.Shape.{minus, dotProduct, squaredLength}
+use Rattle.shapes.specs.Shape.{minus, dot_product, squared_length}
 use Rattle.shapes.proofs.Laws.{x-held, y-held}
 use Rattle.shapes.specs.Strokes.{Thin}
-use Rattle.line_join.specs.Miter.{miterLimit, reaches}
+use Rattle.line_join.specs.Miter.{miter_limit, reaches}
 use Rattle.line_join.proofs.Laws.{too_wide, too-tall}
 use Rattle.shapes.proofs.Widths.{thin-held}
 use Rattle.line_join.proofs.miter.is_short.Statement.{statement}
@@ -103,12 +103,12 @@ add-result : tie.Need-overflow-add-result
 add-result c = fits-add (hold-mul (short-x c) (short-x c) tt) (hold-mul (short-y c) (short-y c) tt) tt
 
 returns-3 : tie.Need-returns-3
-unfolding reaches squaredLength dotProduct minus
+unfolding reaches squared_length dot_product minus
 returns-3 c =
     let e = c.before in
     rw (
       (hold-add (hold-mul (short-x e) (short-x e) tt) (hold-mul (short-y e) (short-y e) tt) tt).is,
-      to_z-of_z {w = w64} {z = c.limit.result} (search rules) ∙ c.limit.ensures ∙ ap miterLimit (thin-held (began e).requires.1.1).is,
+      to_z-of_z {w = w64} {z = c.limit.result} (search rules) ∙ c.limit.ensures ∙ ap miter_limit (thin-held (began e).requires.1.1).is,
     )
 
 pub is-short-spec : {M : Type 1} → statement M

@@ -8,7 +8,7 @@ use mir.Val.{to_z, of_z}
 use Rattle.whole.proofs.Machine.{Hold, literal, fits-mul, hold-mul}
 use Rattle.shapes.specs.Strokes.{Thin}
 use Rattle.shapes.proofs.Widths.{thin-held}
-use Rattle.line_join.specs.Miter.{miterLimit}
+use Rattle.line_join.specs.Miter.{miter_limit}
 use Rattle.line_join.proofs.miter.limit.Statement.{statement}
 use Rattle.line_join.proofs.miter.limit.Tie as tie
 
@@ -24,7 +24,7 @@ mul-result : tie.Need-overflow-mul-result
 mul-result c = search (fits-mul, numbers c.requires)
 
 returns : tie.Need-returns
-unfolding miterLimit
+unfolding miter_limit
 returns c = rw (to_z-of_z (mul-result c), to_z-of_z (mul_most c), (thin-held c.requires).is) refl
 
 pub limit-spec : {M : Type 1} → statement M

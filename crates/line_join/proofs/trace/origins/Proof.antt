@@ -1,18 +1,18 @@
 use mathlib.Core.Path.{sym, ap, ◌∙◌}
 use borrow.Author.Rules.{rules}
-use Rattle.line_join.specs.Origins.{originsBy}
+use Rattle.line_join.specs.Origins.{origins_by}
 use Rattle.line_join.proofs.Others.{not-crossed}
 use Rattle.line_join.proofs.trace.origins.Statement.{statement}
 use Rattle.line_join.proofs.trace.origins.Tie as tie
 
 returns : tie.Need-returns
-returns c = let a = c.before.before.args in ap (λ k. originsBy k a.left a.right) (sym c.enum_told.given.1)
+returns c = let a = c.before.before.args in ap (λ k. origins_by k a.left a.right) (sym c.enum_told.given.1)
 
 returns-2 : tie.Need-returns-2
 returns-2 c =
     let known = c.before.before in
     let a = known.before.before.args in
-    c.cut-origins.ensures ∙ ap (λ k. originsBy k a.left a.right) (sym known.kind.given.1)
+    c.cut-origins.ensures ∙ ap (λ k. origins_by k a.left a.right) (sym known.kind.given.1)
 
 returns-3 : tie.Need-returns-3
 returns-3 c = let a = c.before.before.args in c.no-crossings.ensures ∙ sym (not-crossed a.kind a.left a.right c.before.match.keys3)

@@ -3,7 +3,7 @@ use borrow.Author.Rules.{rules}
 use mir.Facts.{to_z-of_z}
 use mir.Syntax.{w64}
 use mir.Val.{to_z, of_z}
-use Rattle.linear_equation.specs.Equation.{distance_of, isOnSide}
+use Rattle.linear_equation.specs.Equation.{distance_of, is_on_side}
 use Rattle.linear_equation.proofs.inner.check_side.Statement.{statement}
 use Rattle.linear_equation.proofs.inner.check_side.Tie as tie
 
@@ -11,11 +11,11 @@ far : (c : tie.After-distance) → to_z w64 (of_z w64 c.distance.result) ≡ dis
 far c = to_z-of_z {z = c.distance.result} (search rules) ∙ c.distance.ensures
 
 returns : tie.Need-returns
-unfolding isOnSide
+unfolding is_on_side
 returns c = rw (far c.before.before, c.enum_told.given.1)
 
 returns-2 : tie.Need-returns-2
-unfolding isOnSide
+unfolding is_on_side
 returns-2 c = rw (far c.before.before, c.enum-told2.given.1)
 
 pub check-side-spec : {M : Type 1} → statement M

@@ -2,7 +2,7 @@ use borrow.Author.Rules.{rules}
 use mir.Syntax.{w64}
 use mir.Facts.{to_z-of_z}
 use Rattle.whole.proofs.Machine.{hold, fits-mul, hold-mul}
-use Rattle.parallels.specs.Parallels.{isDone}
+use Rattle.parallels.specs.Parallels.{is_done}
 use Rattle.parallels.proofs.Room.{accumulator-small}
 use Rattle.parallels.proofs.inner.is_done.Statement.{statement}
 use Rattle.parallels.proofs.inner.is_done.Tie as tie
@@ -14,7 +14,7 @@ mul-result c =
     fits-mul acc acc tt
 
 returns : tie.Need-returns
-unfolding isDone
+unfolding is_done
 returns c =
     let q = c.before.before.before.requires in
     let acc = hold (accumulator-small q.0 q.1.going) tt in

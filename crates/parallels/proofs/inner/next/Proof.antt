@@ -4,7 +4,7 @@ use mir.Syntax.{w64}
 use mir.Val.{of_z}
 use mir.Facts.{to_z-of_z}
 use Rattle.whole.proofs.Machine.{Hold, hold}
-use Rattle.parallels.specs.Parallels.{yieldOf}
+use Rattle.parallels.specs.Parallels.{yield_of}
 use Rattle.parallels.proofs.Room.{accumulator-small, ready-going}
 use Rattle.parallels.proofs.inner.next.Statement.{statement}
 use Rattle.parallels.proofs.inner.next.Tie as tie
@@ -24,7 +24,7 @@ grow-requires c κs =
     (s.requires.0, rw (accumulator s).is (accumulator s).small)
 
 returns : tie.Need-returns
-unfolding yieldOf
+unfolding yield_of
 returns c =
     let grew = c.before.before in
     let other = grew.before.before in

@@ -3,14 +3,14 @@
 use mathlib.Core.Path.{◌≡◌, refl, ◌∙◌}
 use mathlib.Core.Bool.{false, cond}
 use lib.Dec.{lit<}
-use Rattle.parallels.specs.Parallels.{turn_of, nextParallel, Ready}
+use Rattle.parallels.specs.Parallels.{turn_of, next_parallel, Ready}
 use Rattle.parallels.proofs.Steps.{passed-once, met-here, passed_over}
 use Rattle.parallels.proofs.Room.{ready-turn}
 use Rattle.parallels.proofs.inner.next_parallel.Statement.{statement}
 use Rattle.parallels.proofs.inner.next_parallel.Tie as tie
 
 abbrev invariant-loop : tie.invariant-loop
-invariant-loop plan side from₀ from = Ready plan side from × (nextParallel plan side from ≡ nextParallel plan side from₀)
+invariant-loop plan side from₀ from = Ready plan side from × (next_parallel plan side from ≡ next_parallel plan side from₀)
 
 abbrev decreases-loop : tie.decreases-loop
 decreases-loop plan side from₀ from = cond (turn_of plan side from).met 0 1

@@ -5,11 +5,11 @@ use lib.Dec.{lit≤}
 use mir.Syntax.{w64}
 use mir.Val.{of_z}
 use Rattle.whole.proofs.Machine.{Hold, hold, hold-as, literal, fits_neg, fits-mul, hold-neg, hold-mul}
-use Rattle.shapes.specs.Shape.{squaredLength, samePoint}
+use Rattle.shapes.specs.Shape.{squared_length, same_point}
 use Rattle.shapes.proofs.Laws.{x-held, y-held, near-more, near-held, point-held, within-dot}
-use Rattle.bresenham.specs.Walk.{parametersAlong}
-use Rattle.bresenham.proofs.Laws.{major-unit}
-use Rattle.parallels.specs.Parallels.{turnedBack, opposite, thickness, planAlong}
+use Rattle.bresenham.specs.Walk.{parameters_along}
+use Rattle.bresenham.proofs.Laws.{major_unit}
+use Rattle.parallels.specs.Parallels.{turned_back, opposite, thickness, plan_along}
 use Rattle.parallels.proofs.inner.plan_along.Statement.{statement}
 use Rattle.parallels.proofs.inner.plan_along.Tie as tie
 
@@ -32,8 +32,8 @@ squared-length-requires : tie.Need-squared-length-requires
 squared-length-requires c κs = near-more c.before.before.before.before.before.requires.0 (lit≤ tt)
 
 -- the squared length, in its bits
-length : (c : tie.After-squared-length) → Hold (of_z w64 c.squared-length.result) (squaredLength c.before.before.before.before.before.before.args.d) (2 ^ 31)
-unfolding squaredLength
+length : (c : tie.After-squared-length) → Hold (of_z w64 c.squared-length.result) (squared_length c.before.before.before.before.before.before.args.d) (2 ^ 31)
+unfolding squared_length
 length c = hold-as c.squared-length.ensures (within-dot c.before.before.before.before.before.before.requires.0 c.before.before.before.before.before.before.requires.0) tt
 
 mul-threshold-2 : tie.Need-overflow-mul-threshold-2
@@ -42,11 +42,11 @@ mul-threshold-2 c =
     fits-mul (hold-mul twice twice tt) (length c) tt
 
 -- the major step, in its bits
-major-x : (c : tie.After-parameters-along) → Hold (of_z w64 c.parameters-along.result.major.x) (parametersAlong c.before.args.d).major.x 1
-major-x c = rw c.parameters-along.ensures (x-held (major-unit c.before.args.d) tt)
+major-x : (c : tie.After-parameters-along) → Hold (of_z w64 c.parameters-along.result.major.x) (parameters_along c.before.args.d).major.x 1
+major-x c = rw c.parameters-along.ensures (x-held (major_unit c.before.args.d) tt)
 
-major-y : (c : tie.After-parameters-along) → Hold (of_z w64 c.parameters-along.result.major.y) (parametersAlong c.before.args.d).major.y 1
-major-y c = rw c.parameters-along.ensures (y-held (major-unit c.before.args.d) tt)
+major-y : (c : tie.After-parameters-along) → Hold (of_z w64 c.parameters-along.result.major.y) (parameters_along c.before.args.d).major.y 1
+major-y c = rw c.parameters-along.ensures (y-held (major_unit c.before.args.d) tt)
 
 sub-t12 : tie.Need-overflow-sub-t12
 sub-t12 c = fits_neg (major-x c.before.before.before.before.before.before.before.before) tt
@@ -58,14 +58,14 @@ same-point-requires : tie.Need-same-point-requires
 same-point-requires c κs = search rules
 
 returns : tie.Need-returns
-unfolding planAlong thickness
+unfolding plan_along thickness
 returns c =
     let d = c.before.before.before.before.before.before.before.before.before.before.before.before.args.d in
     let near = c.before.before.before.before.before.before.before.before.before.before.before.before.requires.0 in
     let twice = hold-mul (literal 2 tt) (hold c.before.before.before.before.before.before.before.before.before.before.before.before.requires.1 tt) tt in
-    let along : c.before.before.before.before.before.before.before.before.before.before.before.parameters-along.result ≡ parametersAlong d = c.before.before.before.before.before.before.before.before.before.before.before.parameters-along.ensures in
-    let across : c.before.before.before.before.before.before.before.parameters-along2.result ≡ parametersAlong (turnedBack d) = c.before.before.before.before.before.before.before.parameters-along2.ensures ∙ ap parametersAlong (point-held (y-held near tt) (hold-neg (x-held near tt) tt)) in
-    let flip : c.same_point.result ≡ samePoint c.before.before.before.before.before.before.before.parameters-along2.result.minor (opposite (parametersAlong d).major) = c.same_point.ensures ∙ ap (samePoint c.before.before.before.before.before.before.before.parameters-along2.result.minor) (point-held (hold-neg (major-x c.before.before.before.before.before.before.before.before.before.before.before) tt) (hold-neg (major-y c.before.before.before.before.before.before.before.before.before.before.before) tt)) in
+    let along : c.before.before.before.before.before.before.before.before.before.before.before.parameters-along.result ≡ parameters_along d = c.before.before.before.before.before.before.before.before.before.before.before.parameters-along.ensures in
+    let across : c.before.before.before.before.before.before.before.parameters-along2.result ≡ parameters_along (turned_back d) = c.before.before.before.before.before.before.before.parameters-along2.ensures ∙ ap parameters_along (point-held (y-held near tt) (hold-neg (x-held near tt) tt)) in
+    let flip : c.same_point.result ≡ same_point c.before.before.before.before.before.before.before.parameters-along2.result.minor (opposite (parameters_along d).major) = c.same_point.ensures ∙ ap (same_point c.before.before.before.before.before.before.before.parameters-along2.result.minor) (point-held (hold-neg (major-x c.before.before.before.before.before.before.before.before.before.before.before) tt) (hold-neg (major-y c.before.before.before.before.before.before.before.before.before.before.before) tt)) in
     rw (flip, (hold-mul (hold-mul twice twice tt) (length c.before.before.before.before.before.before) tt).is, across, along)
 
 pub plan-along-spec : {M : Type 1} → statement M

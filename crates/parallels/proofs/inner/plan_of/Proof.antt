@@ -4,7 +4,7 @@ use lib.Dec.{lit≤}
 use Rattle.whole.proofs.Machine.{hold}
 use Rattle.shapes.specs.Shape.{delta}
 use Rattle.shapes.proofs.Laws.{line-near-more, near-delta}
-use Rattle.parallels.specs.Parallels.{planAlong, plan_of, aimed}
+use Rattle.parallels.specs.Parallels.{plan_along, plan_of, aimed}
 use Rattle.parallels.proofs.inner.plan_of.Statement.{statement}
 use Rattle.parallels.proofs.inner.plan_of.Tie as tie
 
@@ -14,7 +14,7 @@ same-point-requires c κs = search rules
 plan-along-requires : tie.Need-plan-along-requires
 plan-along-requires c κs =
     let w = hold c.before.before.requires.1 tt in
-    (record { x-near = record { bound = lit≤ tt }; y-near = record { bound = lit≤ tt } }, rw w.is w.small)
+    (record { x_near = record { bound = lit≤ tt }; y_near = record { bound = lit≤ tt } }, rw w.is w.small)
 
 returns : tie.Need-returns
 unfolding plan_of aimed
@@ -22,7 +22,7 @@ returns c =
     let a = c.before.before.before.args in
     let w = hold c.before.before.before.requires.1 tt in
     let same = sym c.before.before.same_point.ensures ∙ c.before.if1.true in
-    simp same (c.plan-along.ensures ∙ ap (λ w. planAlong _ w a.offset) w.is)
+    simp same (c.plan-along.ensures ∙ ap (λ w. plan_along _ w a.offset) w.is)
 
 delta-requires : tie.Need-delta-requires
 delta-requires c κs = line-near-more c.before.before.requires.0 (lit≤ tt)
@@ -38,7 +38,7 @@ returns-2 c =
     let a = c.before.before.before.before.args in
     let w = hold c.before.before.before.before.requires.1 tt in
     let same = sym c.before.before.before.same_point.ensures ∙ c.before.before.if1.false in
-    simp same (c.plan-along2.ensures ∙ (ap (λ w. planAlong c.before.delta.result w a.offset) w.is ∙ ap (λ d. planAlong d a.width a.offset) c.before.delta.ensures))
+    simp same (c.plan-along2.ensures ∙ (ap (λ w. plan_along c.before.delta.result w a.offset) w.is ∙ ap (λ d. plan_along d a.width a.offset) c.before.delta.ensures))
 
 pub plan-of-spec : {M : Type 1} → statement M
 plan-of-spec =

@@ -1,7 +1,7 @@
 use borrow.Author.Rules.{rules}
 use lib.Dec.{lit<}
 use Rattle.whole.proofs.Machine.{hold, literal, fits-add, fits-quot, hold-add, hold-quot}
-use Rattle.parallels.specs.Parallels.{parallelsStart}
+use Rattle.parallels.specs.Parallels.{parallels_start}
 use Rattle.parallels.proofs.Room.{sized}
 use Rattle.parallels.proofs.Plans.{ready-fresh}
 use Rattle.parallels.proofs.inner.start.Statement.{statement}
@@ -11,18 +11,18 @@ next-parallel-requires : tie.Need-next-parallel-requires
 next-parallel-requires c κs = let q = c.before.before.requires in (q.0, ready-fresh c.swap.result q.0 q.1)
 
 add-accumulator : tie.Need-overflow-add-accumulator
-add-accumulator c = let p = sized c.before.before.before.before.before.before.requires.0.along-fair in fits-add (hold p.loss-small tt) (hold p.gain-small tt) tt
+add-accumulator c = let p = sized c.before.before.before.before.before.before.requires.0.along_fair in fits-add (hold p.loss_small tt) (hold p.gain_small tt) tt
 
 div-accumulator : tie.Need-nonzero-div-accumulator
 div-accumulator c =
-    let p = sized c.before.before.before.before.before.before.requires.0.along-fair in
-    (lit< tt, fits-quot (hold-add (hold p.loss-small tt) (hold p.gain-small tt) tt) (literal 2 tt) tt)
+    let p = sized c.before.before.before.before.before.before.requires.0.along_fair in
+    (lit< tt, fits-quot (hold-add (hold p.loss_small tt) (hold p.gain_small tt) tt) (literal 2 tt) tt)
 
 returns : tie.Need-returns
-unfolding parallelsStart
+unfolding parallels_start
 returns c =
-    let p = sized c.before.before.before.before.before.before.before.requires.0.along-fair in
-    cc (hold-quot (hold-add (hold p.loss-small tt) (hold p.gain-small tt) tt) (literal 2 tt) tt).is
+    let p = sized c.before.before.before.before.before.before.before.requires.0.along_fair in
+    cc (hold-quot (hold-add (hold p.loss_small tt) (hold p.gain_small tt) tt) (literal 2 tt) tt).is
 
 pub start_spec : {M : Type 1} → statement M
 start_spec =

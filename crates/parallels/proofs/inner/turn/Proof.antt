@@ -4,22 +4,22 @@ use mir.Syntax.{w64}
 use mir.Val.{of_z}
 use Rattle.whole.proofs.Machine.{Hold, hold}
 use Rattle.whole.proofs.Bounds.{within_more}
-use Rattle.parallels.specs.Parallels.{deltaLimit, turn_of}
-use Rattle.parallels.proofs.Room.{sized, placed, error-small}
+use Rattle.parallels.specs.Parallels.{delta_limit, turn_of}
+use Rattle.parallels.proofs.Room.{sized, placed, error_small}
 use Rattle.parallels.proofs.inner.turn.Statement.{statement}
 use Rattle.parallels.proofs.inner.turn.Tie as tie
 
 -- the error of the side, in its bits
-error : (c : tie.Start) → Hold (of_z w64 c.args.flank.error) c.args.flank.error deltaLimit
-error c = hold (error-small c.requires.0.along-fair c.requires.1.steady.bounded) tt
+error : (c : tie.Start) → Hold (of_z w64 c.args.flank.error) c.args.flank.error delta_limit
+error c = hold (error_small c.requires.0.along_fair c.requires.1.steady.bounded) tt
 
 across-requires : tie.Need-across-requires
-across-requires c κs = (sized c.requires.0.across-fair, placed c.requires.0 c.requires.1)
+across-requires c κs = (sized c.requires.0.across_fair, placed c.requires.0 c.requires.1)
 
 bend-requires : tie.Need-bend-requires
 bend-requires c κs =
     let s = c.before.before.before.before in
-    (sized s.requires.0.along-fair, rw (error s).is (within_more (error s).small (lit≤ tt)))
+    (sized s.requires.0.along_fair, rw (error s).is (within_more (error s).small (lit≤ tt)))
 
 returns : tie.Need-returns
 unfolding turn_of

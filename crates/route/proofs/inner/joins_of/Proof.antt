@@ -8,26 +8,26 @@ use borrow.Author.Rules.{rules}
 use lib.ListN.{set, replicate}
 use mir.Syntax.{w64}
 use mir.Val.{to_z, of_z}
-use Rattle.whole.specs.Places.{failsFrom, passedWith, list_from}
+use Rattle.whole.specs.Places.{fails_from, passed_with, list_from}
 use Rattle.whole.proofs.Places.{list_length, Counted, counted-more, counted-most, counted-done}
 use Rattle.shapes.proofs.Widths.{thin-held, thin-back}
 use Rattle.line_join.specs.declared.Join.{Join}
-use Rattle.line_join.specs.Caps.{isJoinNear}
+use Rattle.line_join.specs.Caps.{is_join_near}
 use Rattle.board.proofs.Arrays.{partly, fill-turn, fill_done}
-use Rattle.coordinates.specs.Points.{pointCount}
-use Rattle.route_joins.specs.Joins.{joinAt, joinCount, nearJoins}
+use Rattle.coordinates.specs.Points.{point_count}
+use Rattle.route_joins.specs.Joins.{join_at, join_count, near_joins}
 use Rattle.route_joins.proofs.Near.{join-inside}
-use Rattle.route.specs.Joined.{noJoin, keptIn, joinsOf}
+use Rattle.route.specs.Joined.{no_join, kept_in, joins_of}
 use Rattle.whole.proofs.Lists.{list-drop}
 use Rattle.route.proofs.inner.joins_of.Statement.{statement}
 use Rattle.route.proofs.inner.joins_of.Tie as tie
 
 abbrev invariant-loop : tie.invariant-loop
 invariant-loop coordinates width closed limit count joins₀ near₀ i₀ joins near i =
-    let join = joinAt closed coordinates (to_z w64 width) in
-    (i ≤ count) × ((count ≡ joinCount coordinates)
-    × ((joins ≡ partly 256 noJoin (list_from join 0 count) i)
-    × ((near ≤ i) × (Counted (λ j. isJoinNear limit (join j)) count near i ≡ nearJoins limit closed coordinates (to_z w64 width)))))
+    let join = join_at closed coordinates (to_z w64 width) in
+    (i ≤ count) × ((count ≡ join_count coordinates)
+    × ((joins ≡ partly 256 no_join (list_from join 0 count) i)
+    × ((near ≤ i) × (Counted (λ j. is_join_near limit (join j)) count near i ≡ near_joins limit closed coordinates (to_z w64 width)))))
 
 abbrev decreases-loop : tie.decreases-loop
 decreases-loop coordinates width closed limit count joins₀ near₀ i₀ joins near i = count - i
@@ -41,24 +41,24 @@ module _ (c : Begun) where
   n = c.join-count.result
 
   abbrev join : ℕ → Join
-  join = let a = c.before.args in joinAt a.closed a.coordinates.now (to_z w64 (of_z w64 a.width))
+  join = let a = c.before.args in join_at a.closed a.coordinates.now (to_z w64 (of_z w64 a.width))
 
   abbrev test : ℕ → Bool
-  test j = isJoinNear c.before.args.limit (join j)
+  test j = is_join_near c.before.args.limit (join j)
 
   -- every place of the loop is one of the route, and of the array
-  inside : {i : ℕ} → i < n → (2 ≤ pointCount c.before.args.coordinates.now) × (i < pointCount c.before.args.coordinates.now)
+  inside : {i : ℕ} → i < n → (2 ≤ point_count c.before.args.coordinates.now) × (i < point_count c.before.args.coordinates.now)
   inside h = join-inside c.before.args.coordinates.now (omega (arith, c.join-count.ensures))
 
   room : {i : ℕ} → i < n → i < 256
   room h = omega (arith, (inside h).1, c.before.requires.1.1)
 
 loop-holds : tie.Need-loop-init invariant-loop decreases-loop
-unfolding nearJoins
+unfolding near_joins
 loop-holds c =
     let e = c.before.join-count.ensures in
-    let all : c.before.join-count.result - 0 ≡ joinCount c.before.before.args.coordinates.now = omega (arith, e) in
-    (omega arith, (e, (ap (replicate 256) c.no_join.ensures, (omega arith, ap (failsFrom (test c.before) 0) all))))
+    let all : c.before.join-count.result - 0 ≡ join_count c.before.before.args.coordinates.now = omega (arith, e) in
+    (omega arith, (e, (ap (replicate 256) c.no_join.ensures, (omega arith, ap (fails_from (test c.before) 0) all))))
 
 -- ---- in a turn of the loop
 
@@ -75,7 +75,7 @@ join-on-requires c κs =
     (record { near = s.pre.0; thin = thin-back s.pre.1.0; several = i.0 }, i.1)
 
 near : (c : tie.After-near-with invariant-loop decreases-loop) → let l = c.before.before.before in
-    c.near-with.result ≡ passedWith l.before.loop.near l.before.loop.i (test (counted l) l.before.loop.i)
+    c.near-with.result ≡ passed_with l.before.loop.near l.before.loop.i (test (counted l) l.before.loop.i)
 near c = rw (c.near-with.ensures, c.before.is-join-near.ensures, c.before.before.join-on.ensures)
 
 loop-again : tie.Need-loop-preserved invariant-loop decreases-loop
@@ -90,8 +90,8 @@ loop-again c =
       (
         l.before.loop.invariant.1.0,
         (
-          ap (λ js. set js i c.before.before.join-on.result) inv.0 ∙ ap (set (partly 256 noJoin all i) i) c.before.before.join-on.ensures
-              ∙ fill-turn 256 noJoin all (list_from (join s) (i + 1) (n s - (i + 1))) i (join s i) (room s more) (list-drop (join s) (n s) i more),
+          ap (λ js. set js i c.before.before.join-on.result) inv.0 ∙ ap (set (partly 256 no_join all i) i) c.before.before.join-on.ensures
+              ∙ fill-turn 256 no_join all (list_from (join s) (i + 1) (n s - (i + 1))) i (join s i) (room s more) (list-drop (join s) (n s) i more),
           (
             rw (near c) (counted-most (test s) l.before.loop.near i (test s i) inv.1.0),
             ap (λ m. Counted (test s) (n s) m (i + 1)) (near c) ∙ counted-more (test s) (n s) l.before.loop.near i inv.1.0 more ∙ inv.1.1,
@@ -101,13 +101,13 @@ loop-again c =
     )
 
 returns : tie.Need-returns invariant-loop decreases-loop
-unfolding joinsOf keptIn
+unfolding joins_of kept_in
 returns c =
     let l = c.before in
     let s = l.before.before in
     let inv = l.loop.invariant.1.1 in
     let last : l.loop.i ≡ n s = omega (arith, l.loop.invariant.0) in
-    let full = inv.0 ∙ fill_done 256 noJoin (list_from (join s) 0 (n s)) l.loop.i (last ∙ sym (list_length (join s) 0 (n s))) in
+    let full = inv.0 ∙ fill_done 256 no_join (list_from (join s) 0 (n s)) l.loop.i (last ∙ sym (list_length (join s) 0 (n s))) in
     let tested = sym (counted-done (test s) (n s) l.loop.near) ∙ ap (Counted (test s) (n s) l.loop.near) (sym last) ∙ inv.1.1 in
     rw (← (thin-held s.before.requires.1.0).is, full, tested, l.loop.invariant.1.0)
 

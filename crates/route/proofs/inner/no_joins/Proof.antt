@@ -4,12 +4,12 @@ use mathlib.Core.Path.{ap}
 use mathlib.Core.Bool.{false}
 use lib.ListN.{replicate}
 use Rattle.route.specs.declared.Joins.{Joins}
-use Rattle.route.specs.Answers.{noJoins}
+use Rattle.route.specs.Answers.{no_joins}
 use Rattle.route.proofs.inner.no_joins.Statement.{statement}
 use Rattle.route.proofs.inner.no_joins.Tie as tie
 
 returns : tie.Need-returns
-unfolding noJoins
+unfolding no_joins
 returns c = ap {B = Joins} (λ j. record { closed = false; count = 0; near = 0; joins = replicate 256 j }) c.no_join.ensures
 
 pub no-joins-spec : {M : Type 1} → statement M

@@ -4,36 +4,36 @@ use borrow.Author.Rules.{rules}
 use borrow.Author.Tests.{ne_eqb}
 use mir.Facts.{to_z-of_z}
 use Rattle.shapes.proofs.Widths.{thin-back}
-use Rattle.coordinates.specs.Refusal.{routeRefusal, Accepted}
+use Rattle.coordinates.specs.Refusal.{route_refusal, Accepted}
 use Rattle.coordinates.proofs.Laws.{accepted-exactly}
-use Rattle.route_joins.specs.Joins.{routeBend}
+use Rattle.route_joins.specs.Joins.{route_bend}
 use Rattle.route_joins.proofs.Near.{all_more}
-use Rattle.route.specs.Joined.{joinsOf}
-use Rattle.route.specs.Answers.{drawRefusal, preparedOf}
+use Rattle.route.specs.Joined.{joins_of}
+use Rattle.route.specs.Answers.{draw_refusal, prepared_of}
 use Rattle.route.proofs.Chains.{prepared-near, prepared-far}
 use Rattle.route.proofs.inner.prepare.Statement.{statement}
 use Rattle.route.proofs.inner.prepare.Tie as tie
 
-told : (c : tie.After-refusal) → let a = c.before.args in c.refusal.result ≡ routeRefusal a.limits.point a.closed a.coordinates.now a.width
+told : (c : tie.After-refusal) → let a = c.before.args in c.refusal.result ≡ route_refusal a.limits.point a.closed a.coordinates.now a.width
 told c = cc (to_z-of_z c.before.ranges.width)
 
 accepted : (c : tie.Else1) → let a = c.before.before.args in Accepted a.limits.point a.closed a.coordinates.now a.width
 accepted c = let a = c.before.before.args in (accepted-exactly a.limits.point a.closed a.coordinates.now a.width).0 (sym (told c.before) ∙ c.if1.false)
 
-made : (c : tie.After-joins-of) → let a = c.before.before.before.args in c.Joins-of.result ≡ joinsOf a.limits.corner a.closed a.coordinates.now a.width
+made : (c : tie.After-joins-of) → let a = c.before.before.before.args in c.Joins-of.result ≡ joins_of a.limits.corner a.closed a.coordinates.now a.width
 made c = cc (to_z-of_z c.before.before.before.ranges.width)
 
 returns : tie.Need-returns
-unfolding preparedOf drawRefusal routeBend
+unfolding prepared_of draw_refusal route_bend
 returns c =
     let r = c.before.before in
     let other = ne_eqb r.refusal.result 0 c.before.if1.true in
     rw (← told r, other, c.no_joins.ensures)
 
 joins-of-requires : tie.Need-joins-of-requires
-joins-of-requires c κs = let a = accepted c in (all_more a.near c.before.before.requires.point-room, (thin-back a.thin, a.few))
+joins-of-requires c κs = let a = accepted c in (all_more a.near c.before.before.requires.point_room, (thin-back a.thin, a.few))
 
-zero : (c : tie.After-joins-of) → let a = c.before.before.before.args in routeRefusal a.limits.point a.closed a.coordinates.now a.width ≡ 0
+zero : (c : tie.After-joins-of) → let a = c.before.before.before.args in route_refusal a.limits.point a.closed a.coordinates.now a.width ≡ 0
 zero c = sym (told c.before.before) ∙ c.before.if1.false
 
 returns-2 : tie.Need-returns-2

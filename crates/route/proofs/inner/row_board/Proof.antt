@@ -13,17 +13,17 @@ use mir.Val.{to_z, of_z}
 use mir.Facts.{to_z-of_z}
 use Rattle.whole.specs.Places.{list_from}
 use Rattle.whole.proofs.Places.{list-end, list-next}
-use Rattle.shapes.specs.Limits.{boardRuns}
+use Rattle.shapes.specs.Limits.{board_runs}
 use Rattle.shapes.specs.Spans.{is_empty}
 use Rattle.shapes.specs.declared.Span.{Span}
 use Rattle.board.specs.declared.Board.{Board}
-use Rattle.thick_segment.specs.Segments.{spanOn}
-use Rattle.board.specs.Boards.{added, boardOf}
-use Rattle.route_joins.specs.Joins.{endPlace}
+use Rattle.thick_segment.specs.Segments.{span_on}
+use Rattle.board.specs.Boards.{added, board_of}
+use Rattle.route_joins.specs.Joins.{end_place}
 use Rattle.route_joins.proofs.Near.{place_inside}
 use Rattle.route.specs.declared.Joins.{Joins}
-use Rattle.route.specs.Joined.{segmentsIn}
-use Rattle.route.specs.Rows.{spanIn, offerAll, boardOn}
+use Rattle.route.specs.Joined.{segments_in}
+use Rattle.route.specs.Rows.{span_in, offer_all, board_on}
 use Rattle.route.proofs.Kept.{ends-in-array, segment-made, segment-near}
 use Rattle.route.proofs.Offers.{added-few, offer-none, offer-on, offer-stop, offer-empty}
 use Rattle.route.proofs.inner.row_board.Statement.{statement}
@@ -31,8 +31,8 @@ use Rattle.route.proofs.inner.row_board.Tie as tie
 
 abbrev invariant-loop : tie.invariant-loop
 invariant-loop row route count closed n board₀ k₀ board k =
-    (k ≤ n) × ((n ≡ segmentsIn route)
-    × ((board.count ≤ boardRuns) × (offerAll board (list_from (spanIn route (to_z w64 row)) k (n - k)) ≡ boardOn route (to_z w64 row))))
+    (k ≤ n) × ((n ≡ segments_in route)
+    × ((board.count ≤ board_runs) × (offer_all board (list_from (span_in route (to_z w64 row)) k (n - k)) ≡ board_on route (to_z w64 row))))
 
 abbrev decreases-loop : tie.decreases-loop
 decreases-loop row route count closed n board₀ k₀ board k = n - k
@@ -43,18 +43,18 @@ module _ (c : tie.After-segments-of invariant-loop decreases-loop) where
   route = c.before.args.t1
 
   abbrev lit-at : ℕ → Span
-  lit-at = spanIn route (to_z w64 (of_z w64 c.before.args.row))
+  lit-at = span_in route (to_z w64 (of_z w64 c.before.args.row))
 
   -- the row is what it was
-  same_row : boardOn route (to_z w64 (of_z w64 c.before.args.row)) ≡ boardOn route c.before.args.row
-  same_row = ap (boardOn route) (to_z-of_z c.before.ranges.row)
+  same_row : board_on route (to_z w64 (of_z w64 c.before.args.row)) ≡ board_on route c.before.args.row
+  same_row = ap (board_on route) (to_z-of_z c.before.ranges.row)
 
 loop-holds : tie.Need-loop-init invariant-loop decreases-loop
-unfolding boardOn boardOf
+unfolding board_on board_of
 loop-holds c =
     let e = c.empty-board.ensures in
     let n = c.before.segments-of.ensures in
-    let all : c.before.segments-of.result - 0 ≡ segmentsIn (route c.before) = omega (arith, n) in
+    let all : c.before.segments-of.result - 0 ≡ segments_in (route c.before) = omega (arith, n) in
     (omega arith, (n, (rw e (lit≤ tt), rw (e, all))))
 
 -- ---- in a turn of the loop
@@ -66,16 +66,16 @@ module _ (c : tie.In-loop invariant-loop decreases-loop) where
   abbrev place : ℕ
   place = c.before.loop.k
 
-  inner : place < segmentsIn (route began)
+  inner : place < segments_in (route began)
   inner = omega (arith, c.loop-test.true, c.before.loop.invariant.1.0)
 
-  inside : (place < 256) × (endPlace (route began).closed (route began).count place < 256)
+  inside : (place < 256) × (end_place (route began).closed (route began).count place < 256)
   inside = ends-in-array began.before.pre inner
 
   -- the spans that are left begin with that of the place
   left : let n = began.segments-of.result in
-      offerAll c.before.loop.board (lit-at began place ∷ list_from (lit-at began) (place + 1) (n - (place + 1))) ≡ boardOn (route began) (to_z w64 (of_z w64 began.before.args.row))
-  left = ap (offerAll c.before.loop.board) (sym (list-next (lit-at began) began.segments-of.result place c.loop-test.true)) ∙ c.before.loop.invariant.1.1.1
+      offer_all c.before.loop.board (lit-at began place ∷ list_from (lit-at began) (place + 1) (n - (place + 1))) ≡ board_on (route began) (to_z w64 (of_z w64 began.before.args.row))
+  left = ap (offer_all c.before.loop.board) (sym (list-next (lit-at began) began.segments-of.result place c.loop-test.true)) ∙ c.before.loop.invariant.1.1.1
 
 end-place-requires : tie.Need-end-place-requires invariant-loop decreases-loop
 end-place-requires c κs = (place_inside (route (began c)).closed (inner c)).0
@@ -84,7 +84,7 @@ end-place-requires c κs = (place_inside (route (began c)).closed (inner c)).0
 lit : (c : tie.After-span invariant-loop decreases-loop) → let l = c.before.before.before.before in c.span.result ≡ lit-at (began l) (place l)
 lit c =
     let l = c.before.before.before.before in
-    c.span.ensures ∙ ap (λ s. spanOn s (to_z w64 (of_z w64 (began l).before.args.row))) (segment-made (route (began l)) (place l) c.before.before.before.end-place.ensures)
+    c.span.ensures ∙ ap (λ s. span_on s (to_z w64 (of_z w64 (began l).before.args.row))) (segment-made (route (began l)) (place l) c.before.before.before.end-place.ensures)
 
 answer : (c : tie.After-offer-sound invariant-loop decreases-loop) → let l = c.before.before.before.before.before.before.before in
     c.offer-sound.result ≡ added l.before.loop.board (lit-at (began l) (place l))
@@ -120,8 +120,8 @@ module _ (c : tie.Joined1 invariant-loop decreases-loop) where
 
   -- the board that a turn leaves
   record Goes (b : Board) : Type 0 where
-    few : b.count ≤ boardRuns
-    on : offerAll b rest ≡ boardOn (route (began turn)) (to_z w64 (of_z w64 (began turn).before.args.row))
+    few : b.count ≤ board_runs
+    on : offer_all b rest ≡ board_on (route (began turn)) (to_z w64 (of_z w64 (began turn).before.args.row))
 
   kept : is_empty (lit-at (began turn) (place turn)) ≡ true → Goes held
   kept e = record { few = turn.before.loop.inv.1.1.0; on = sym (offer-empty held _ rest e) ∙ left turn }
@@ -147,7 +147,7 @@ returns-2 : tie.Need-returns-2 invariant-loop decreases-loop
 returns-2 c =
     let l = c.before in
     let s = l.before.before in
-    sym (ap (offerAll l.loop.board) (list-end (lit-at s) s.segments-of.result l.loop.k (omega arith)) ∙ offer-none l.loop.board) ∙ l.loop.invariant.1.1.1 ∙ same_row s
+    sym (ap (offer_all l.loop.board) (list-end (lit-at s) s.segments-of.result l.loop.k (omega arith)) ∙ offer-none l.loop.board) ∙ l.loop.invariant.1.1.1 ∙ same_row s
 
 add-k : tie.Need-overflow-add-k invariant-loop decreases-loop
 add-k c = omega (arith, (inside c.before.before.before.before.before.before).0)

@@ -6,7 +6,7 @@ use mir.Syntax.{w64}
 use mir.Val.{to_z, of_z}
 use Prim.Native.Nat.{◌+◌}
 use Rattle.whole.proofs.Machine.{Hold, hold, literal, fits-add, fits_sub, hold-add, hold-sub}
-use Rattle.shapes.specs.Limits.{lineLimit}
+use Rattle.shapes.specs.Limits.{line_limit}
 use Rattle.route.proofs.Ranges.{height-small, height-counts, count-some, count_none}
 use Rattle.route.proofs.inner.row_count.Statement.{statement}
 use Rattle.route.proofs.inner.row_count.Tie as tie
@@ -15,14 +15,14 @@ module _ (c : tie.After-struct-told) where
   abbrev start : tie.Start
   start = c.before.before.before
 
-  lower : Hold (of_z w64 start.args.rows.last) start.args.rows.last lineLimit
-  lower = hold start.pre.last-near tt
+  lower : Hold (of_z w64 start.args.rows.last) start.args.rows.last line_limit
+  lower = hold start.pre.last_near tt
 
-  upper : Hold (of_z w64 start.args.rows.first) start.args.rows.first lineLimit
-  upper = hold start.pre.first-near tt
+  upper : Hold (of_z w64 start.args.rows.first) start.args.rows.first line_limit
+  upper = hold start.pre.first_near tt
 
   tall : let rows = start.args.rows in
-      Hold (of_z w64 (to_z w64 (of_z w64 (to_z w64 (of_z w64 rows.last) -ℤ to_z w64 (of_z w64 rows.first))) +ℤ pos 1)) ((rows.last -ℤ rows.first) +ℤ pos 1) (lineLimit + lineLimit + 1)
+      Hold (of_z w64 (to_z w64 (of_z w64 (to_z w64 (of_z w64 rows.last) -ℤ to_z w64 (of_z w64 rows.first))) +ℤ pos 1)) ((rows.last -ℤ rows.first) +ℤ pos 1) (line_limit + line_limit + 1)
   tall = hold-add (hold-sub lower upper tt) (literal 1 tt) tt
 
 cast-result : tie.Need-overflow-cast-result

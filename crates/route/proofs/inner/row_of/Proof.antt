@@ -4,26 +4,26 @@ use native.Mathlib.Omega.{arith}
 use borrow.Author.Rules.{rules}
 use mir.Facts.{to_z-of_z}
 use mir.Syntax.{w64}
-use Rattle.whole.specs.Number.{isWithin}
+use Rattle.whole.specs.Number.{is_within}
 use Rattle.whole.proofs.Laws.{true-within}
-use Rattle.shapes.specs.Limits.{lineLimit}
+use Rattle.shapes.specs.Limits.{line_limit}
 use Rattle.board.specs.Boards.{Sound}
-use Rattle.route.specs.Rows.{boardOn}
-use Rattle.route.specs.Answers.{refusalOn}
+use Rattle.route.specs.Rows.{board_on}
+use Rattle.route.specs.Answers.{refusal_on}
 use Rattle.route.proofs.Drawn.{drawn-sound}
 use Rattle.route.proofs.RowLists.{refused-on, listed-on}
 use Rattle.route.proofs.inner.row_of.Statement.{statement}
 use Rattle.route.proofs.inner.row_of.Tie as tie
 
-inside : (c : tie.After-within) → let a = c.before.args in c.within.result ≡ isWithin a.limit a.row
+inside : (c : tie.After-within) → let a = c.before.args in c.within.result ≡ is_within a.limit a.row
 inside c = cc (to_z-of_z c.before.ranges.row)
 
-drawn : (c : tie.After-row-board) → let a = c.before.before.before.args in c.row-board.result ≡ boardOn a.route a.row
+drawn : (c : tie.After-row-board) → let a = c.before.before.before.args in c.row-board.result ≡ board_on a.route a.row
 drawn c = cc (to_z-of_z c.before.before.before.ranges.row)
 
 -- the number of the row
-number : (c : tie.After-row-board) → let a = c.before.before.before.args in refusalOn a.limit a.route a.row ≡ c.row-board.result.refusal
-unfolding refusalOn
+number : (c : tie.After-row-board) → let a = c.before.before.before.args in refusal_on a.limit a.route a.row ≡ c.row-board.result.refusal
+unfolding refusal_on
 number c = rw (← drawn c, ← inside c.before.before, c.before.if1.true)
 
 returns : tie.Need-returns
@@ -37,7 +37,7 @@ list-sound-requires c κs =
     let b = c.before.before.before in
     let s = b.before.before.before in
     let near = true-within s.args.limit s.args.row (sym (inside b.before.before) ∙ b.before.if1.true) in
-    subst (λ a. Sound lineLimit a.board) (sym (drawn b)) (drawn-sound s.requires.0 (record { bound = omega (arith, near.bound, s.requires.1) }))
+    subst (λ a. Sound line_limit a.board) (sym (drawn b)) (drawn-sound s.requires.0 (record { bound = omega (arith, near.bound, s.requires.1) }))
 
 returns-2 : tie.Need-returns-2
 returns-2 c =
@@ -47,7 +47,7 @@ returns-2 c =
     listed-on a.limit a.route a.row a.out.now (number b ∙ l.before.before.if2.false) (ap (λ d. d.board) (drawn b)) l.list-sound.ensures.0 (to_z-of_z {w = w64} {z = l.list-sound.result.total} (search rules)) l.list-sound.ensures.1
 
 returns-3 : tie.Need-returns-3
-unfolding refusalOn
+unfolding refusal_on
 returns-3 c =
     let w = c.before.before in
     let a = w.before.args in

@@ -6,27 +6,27 @@ use native.Mathlib.Omega.{arith}
 use borrow.Author.Rules.{rules}
 use Rattle.whole.specs.Places.{list_from}
 use Rattle.whole.proofs.Places.{list-end, list-next}
-use Rattle.thick_segment.specs.Rows.{drawnRows}
-use Rattle.route_joins.specs.Joins.{endPlace}
+use Rattle.thick_segment.specs.Rows.{drawn_rows}
+use Rattle.route_joins.specs.Joins.{end_place}
 use Rattle.route_joins.proofs.Near.{place_inside}
 use Rattle.route.specs.declared.Joins.{Joins}
-use Rattle.route.specs.Joined.{segmentsIn}
-use Rattle.route.specs.Rows.{withRows, withAll, drawnIn, rowsIn}
+use Rattle.route.specs.Joined.{segments_in}
+use Rattle.route.specs.Rows.{with_rows, with_all, drawn_in, rows_in}
 use Rattle.route.proofs.Kept.{ends-in-array, segment-made, segment-near}
 use Rattle.route.proofs.inner.rows_of.Statement.{statement}
 use Rattle.route.proofs.inner.rows_of.Tie as tie
 
 abbrev invariant-loop : tie.invariant-loop
-invariant-loop route count closed n rows₀ k₀ rows k = (k ≤ n) × ((n ≡ segmentsIn route) × (withAll rows (list_from (drawnIn route) k (n - k)) ≡ rowsIn route))
+invariant-loop route count closed n rows₀ k₀ rows k = (k ≤ n) × ((n ≡ segments_in route) × (with_all rows (list_from (drawn_in route) k (n - k)) ≡ rows_in route))
 
 abbrev decreases-loop : tie.decreases-loop
 decreases-loop route count closed n rows₀ k₀ rows k = n - k
 
 loop-holds : tie.Need-loop-init invariant-loop decreases-loop
-unfolding rowsIn
+unfolding rows_in
 loop-holds c =
     let n = c.segments-of.ensures in
-    let all : c.segments-of.result - 0 ≡ segmentsIn c.before.args.t1 = omega (arith, n) in
+    let all : c.segments-of.result - 0 ≡ segments_in c.before.args.t1 = omega (arith, n) in
     (omega arith, (n, rw all))
 
 -- ---- in a turn of the loop
@@ -38,17 +38,17 @@ module _ (c : tie.In-loop invariant-loop decreases-loop) where
   abbrev place : ℕ
   place = c.before.loop.k
 
-  inner : place < segmentsIn route
+  inner : place < segments_in route
   inner = omega (arith, c.loop-test.true, c.before.loop.invariant.1.0)
 
-  inside : (place < 256) × (endPlace route.closed route.count place < 256)
+  inside : (place < 256) × (end_place route.closed route.count place < 256)
   inside = ends-in-array c.before.before.before.requires inner
 
   -- the rows that are left begin with that of the place
   left : let n = c.before.before.segments-of.result in
-      withAll (withRows c.before.loop.rows (drawnIn route place)) (list_from (drawnIn route) (place + 1) (n - (place + 1))) ≡ rowsIn route
-  unfolding withAll
-  left = ap (withAll c.before.loop.rows) (sym (list-next (drawnIn route) c.before.before.segments-of.result place c.loop-test.true)) ∙ c.before.loop.invariant.1.1
+      with_all (with_rows c.before.loop.rows (drawn_in route place)) (list_from (drawn_in route) (place + 1) (n - (place + 1))) ≡ rows_in route
+  unfolding with_all
+  left = ap (with_all c.before.loop.rows) (sym (list-next (drawn_in route) c.before.before.segments-of.result place c.loop-test.true)) ∙ c.before.loop.invariant.1.1
 
 drawn-rows-requires : tie.Need-drawn-rows-requires invariant-loop decreases-loop
 drawn-rows-requires c κs =
@@ -56,10 +56,10 @@ drawn-rows-requires c κs =
     rw (segment-made (route l) (place l) c.before.before.end-place.ensures) (segment-near l.before.before.before.requires (inner l))
 
 -- the rows with those of the turn's segment
-widened : (c : tie.After-with-rows invariant-loop decreases-loop) → let l = c.before.before.before.before.before in c.with_rows.result ≡ withRows l.before.loop.rows (drawnIn (route l) (place l))
+widened : (c : tie.After-with-rows invariant-loop decreases-loop) → let l = c.before.before.before.before.before in c.with_rows.result ≡ with_rows l.before.loop.rows (drawn_in (route l) (place l))
 widened c =
     let l = c.before.before.before.before.before in
-    c.with_rows.ensures ∙ ap (withRows l.before.loop.rows) (c.before.drawn-rows.ensures ∙ ap drawnRows (segment-made (route l) (place l) c.before.before.before.before.end-place.ensures))
+    c.with_rows.ensures ∙ ap (with_rows l.before.loop.rows) (c.before.drawn-rows.ensures ∙ ap drawn_rows (segment-made (route l) (place l) c.before.before.before.before.end-place.ensures))
 
 loop-again : tie.Need-loop-preserved invariant-loop decreases-loop
 loop-again c =
@@ -67,10 +67,10 @@ loop-again c =
     (omega arith, (l.before.loop.invariant.1.0, rw (widened c) (left l)))
 
 returns : tie.Need-returns invariant-loop decreases-loop
-unfolding withAll
+unfolding with_all
 returns c =
     let l = c.before in
-    sym (ap (withAll l.loop.rows) (list-end (drawnIn l.before.before.args.t1) l.before.segments-of.result l.loop.k (omega arith))) ∙ l.loop.invariant.1.1
+    sym (ap (with_all l.loop.rows) (list-end (drawn_in l.before.before.args.t1) l.before.segments-of.result l.loop.k (omega arith))) ∙ l.loop.invariant.1.1
 
 pub rows-of-spec : {M : Type 1} → statement M
 rows-of-spec =

@@ -8,24 +8,24 @@ use mir.Syntax.{w64}
 use mir.Facts.{to_z-of_z}
 use Rattle.whole.specs.Places.{list_from}
 use Rattle.whole.proofs.Places.{list-end, list-next}
-use Rattle.shapes.specs.Refusals.{orElse}
-use Rattle.route.specs.Rows.{boardOn, rowCount, first_of, room_at, rowsRefusal}
+use Rattle.shapes.specs.Refusals.{or_else}
+use Rattle.route.specs.Rows.{board_on, row_count, first_of, room_at, rows_refusal}
 use Rattle.shapes.proofs.Choices.{or-free, or-stopped}
 use Rattle.route.proofs.Ranges.{count_small}
 use Rattle.route.proofs.inner.rows_refusal.Statement.{statement}
 use Rattle.route.proofs.inner.rows_refusal.Tie as tie
 
 abbrev invariant-loop : tie.invariant-loop
-invariant-loop route rows n i₀ i = (i ≤ n) × ((n ≡ rowCount rows) × (first_of (list_from (room_at route rows) i (n - i)) ≡ rowsRefusal route rows))
+invariant-loop route rows n i₀ i = (i ≤ n) × ((n ≡ row_count rows) × (first_of (list_from (room_at route rows) i (n - i)) ≡ rows_refusal route rows))
 
 abbrev decreases-loop : tie.decreases-loop
 decreases-loop route rows n i₀ i = n - i
 
 loop-holds : tie.Need-loop-init invariant-loop decreases-loop
-unfolding rowsRefusal
+unfolding rows_refusal
 loop-holds c =
     let n = c.row_count.ensures in
-    let all : c.row_count.result - 0 ≡ rowCount c.before.args.rows = omega (arith, n) in
+    let all : c.row_count.result - 0 ≡ row_count c.before.args.rows = omega (arith, n) in
     (omega arith, (n, rw all))
 
 -- ---- in a turn of the loop
@@ -43,18 +43,18 @@ module _ (c : tie.In-loop invariant-loop decreases-loop) where
   abbrev rest : ℕ
   rest = first_of (list_from room (place + 1) (c.before.before.row_count.result - (place + 1)))
 
-  inner : place < rowCount start.args.rows
+  inner : place < row_count start.args.rows
   inner = omega (arith, c.loop-test.true, c.before.loop.invariant.1.0)
 
   -- the rows that are left begin with that of the place
-  left : orElse (room place) rest ≡ rowsRefusal start.args.route start.args.rows
+  left : or_else (room place) rest ≡ rows_refusal start.args.route start.args.rows
   unfolding first_of
   left = ap first_of (sym (list-next room c.before.before.row_count.result place c.loop-test.true)) ∙ c.before.loop.invariant.1.1
 
 answer : (c : tie.After-row-board invariant-loop decreases-loop) → let l = c.before.before in c.row-board.result.refusal ≡ room l (place l)
 answer c =
     let r = c.before in
-    ap (λ a. a.refusal) (c.row-board.ensures ∙ ap (boardOn (start r.before).args.route) (to_z-of_z {w = w64} {z = r.row_at.result} (search rules) ∙ r.row_at.ensures))
+    ap (λ a. a.refusal) (c.row-board.ensures ∙ ap (board_on (start r.before).args.route) (to_z-of_z {w = w64} {z = r.row_at.result} (search rules) ∙ r.row_at.ensures))
 
 returns : tie.Need-returns invariant-loop decreases-loop
 returns c =

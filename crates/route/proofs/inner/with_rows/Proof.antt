@@ -4,7 +4,7 @@ use borrow.Author.Rules.{rules}
 use mir.Facts.{to_z-of_z}
 use mir.Syntax.{w64}
 use Rattle.thick_segment.specs.Rows.{around}
-use Rattle.route.specs.Rows.{ends, withRows}
+use Rattle.route.specs.Rows.{ends, with_rows}
 use Rattle.route.proofs.inner.with_rows.Statement.{statement}
 use Rattle.route.proofs.inner.with_rows.Tie as tie
 
@@ -15,7 +15,7 @@ wide c =
     c.around.ensures ∙ rw (to_z-of_z {w = w64} {z = r.first} (search rules), to_z-of_z {w = w64} {z = r.last} (search rules))
 
 returns : tie.Need-returns
-unfolding withRows
+unfolding with_rows
 returns c =
     let w = c.before in
     let r = w.around.result in
@@ -26,7 +26,7 @@ returns c =
     ) refl
 
 returns-2 : tie.Need-returns-2
-unfolding withRows
+unfolding with_rows
 returns-2 c =
     let r = c.before.before.args.rows in
     simp (c.before.if1.false, to_z-of_z {w = w64} {z = r.first} (search rules), to_z-of_z {w = w64} {z = r.last} (search rules)) refl

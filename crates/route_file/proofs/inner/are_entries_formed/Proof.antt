@@ -6,13 +6,13 @@ use native.Mathlib.Numerals.{unary_clauses}
 use native.Mathlib.Omega.{arith}
 use borrow.Author.Tests.{not-true, not-false}
 use lib.ListN.{length}
-use Rattle.route_file.specs.Form.{entryAt, isEntryFormed, areFormed}
+use Rattle.route_file.specs.Form.{entry_at, is_entry_formed, are_formed}
 use Rattle.route_file.proofs.Reading.{entry-on, entry-stop, entry-end}
 use Rattle.route_file.proofs.inner.are_entries_formed.Statement.{statement}
 use Rattle.route_file.proofs.inner.are_entries_formed.Tie as tie
 
 abbrev invariant-loop : tie.invariant-loop
-invariant-loop file n end k₀ k = areFormed end file k (n - k) ≡ areFormed end file 0 n
+invariant-loop file n end k₀ k = are_formed end file k (n - k) ≡ are_formed end file 0 n
 
 abbrev decreases-loop : tie.decreases-loop
 decreases-loop file n end k₀ k = n - k
@@ -28,11 +28,11 @@ is-entry-formed-requires c κs = tt
 
 -- what the call says of the entry at k
 told : (c : tie.After-is-entry-formed invariant-loop decreases-loop) → let l = c.before.before.before in let a = l.before.before.args in
-    c.is-entry-formed.result ≡ isEntryFormed a.end (length a.file.now) (entryAt a.file.now l.loop.k)
+    c.is-entry-formed.result ≡ is_entry_formed a.end (length a.file.now) (entry_at a.file.now l.loop.k)
 told c =
     let l = c.before.before.before in
     let a = l.before.before.args in
-    c.is-entry-formed.ensures ∙ ap (isEntryFormed a.end (length a.file.now)) c.before.entry_at.ensures
+    c.is-entry-formed.ensures ∙ ap (is_entry_formed a.end (length a.file.now)) c.before.entry_at.ensures
 
 returns : tie.Need-returns invariant-loop decreases-loop
 returns c =

@@ -1,6 +1,6 @@
 -- `route_file::inner::count_of` meets its contract. Assumes nothing.
 use borrow.Author.Rules.{rules}
-use Rattle.route_file.specs.Form.{routeCount}
+use Rattle.route_file.specs.Form.{route_count}
 use Rattle.route_file.proofs.inner.count_of.Statement.{statement}
 use Rattle.route_file.proofs.inner.count_of.Tie as tie
 
@@ -11,7 +11,7 @@ cast-result : tie.Need-overflow-cast-result
 cast-result c = search rules
 
 returns : tie.Need-returns
-unfolding routeCount
+unfolding route_count
 returns c = c.number_at.ensures
 
 pub count-of-spec : {M : Type 1} → statement M

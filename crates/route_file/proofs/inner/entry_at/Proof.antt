@@ -1,6 +1,6 @@
 -- `route_file::inner::entry_at` meets its contract. Assumes nothing.
 use borrow.Author.Rules.{rules}
-use Rattle.route_file.specs.Form.{entryAt}
+use Rattle.route_file.specs.Form.{entry_at}
 use Rattle.route_file.proofs.inner.entry_at.Statement.{statement}
 use Rattle.route_file.proofs.inner.entry_at.Tie as tie
 
@@ -32,7 +32,7 @@ number-at-requires-4 : tie.Need-number-at-requires-4
 number-at-requires-4 c κs = search rules
 
 returns : tie.Need-returns
-unfolding entryAt
+unfolding entry_at
 returns c = rw (c.before.before.before.number_at.ensures, c.before.before.number-at2.ensures, c.before.number-at3.ensures, c.number-at4.ensures)
 
 pub entry-at-spec : {M : Type 1} → statement M

@@ -1,19 +1,19 @@
 -- `route_file::inner::is_entry_formed` meets its contract. Assumes nothing.
 use borrow.Author.Tests.{le-leb, lt-leb}
 use borrow.Author.Rules.{rules}
-use Rattle.route_file.specs.Form.{isEntryFormed}
+use Rattle.route_file.specs.Form.{is_entry_formed}
 use Rattle.route_file.proofs.inner.is_entry_formed.Statement.{statement}
 use Rattle.route_file.proofs.inner.is_entry_formed.Tie as tie
 
 returns : tie.Need-returns
-unfolding isEntryFormed
+unfolding is_entry_formed
 returns c = simp (lt-leb _ _ c.if1.true)
 
 cast-offset : tie.Need-overflow-cast-offset
 cast-offset c = search rules
 
 returns-2 : tie.Need-returns-2
-unfolding isEntryFormed
+unfolding is_entry_formed
 returns-2 c = simp (le-leb _ _ c.before.before.if1.false, lt-leb _ _ c.if2.true)
 
 cast-result : tie.Need-overflow-cast-result
@@ -26,7 +26,7 @@ add-result : tie.Need-overflow-add-result
 add-result c = search rules
 
 returns-3 : tie.Need-returns-3
-unfolding isEntryFormed
+unfolding is_entry_formed
 returns-3 c = simp (le-leb _ _ c.before.before.before.if1.false, le-leb _ _ c.before.if2.false)
 
 pub is-entry-formed-spec : {M : Type 1} → statement M

@@ -3,7 +3,7 @@ use mathlib.Core.Path.{refl}
 use native.Mathlib.Omega.{arith}
 use Prim.Native.Nat.{◌+◌}
 use borrow.Author.Rules.{rules}
-use Rattle.route_file.specs.Numbers.{numberAt}
+use Rattle.route_file.specs.Numbers.{number_at}
 use Rattle.route_file.proofs.inner.number_at.Statement.{statement}
 use Rattle.route_file.proofs.inner.number_at.Tie as tie
 
@@ -29,7 +29,7 @@ add-result-2 : tie.Need-overflow-add-result-2
 add-result-2 c = omega (arith, c.before.shared-slice-known.given c.before.before.args.at, c.shared-slice-known2.given (c.before.before.args.at + 1))
 
 returns : tie.Need-returns
-unfolding numberAt
+unfolding number_at
 returns c = refl
 
 pub number-at-spec : {M : Type 1} → statement M

@@ -9,14 +9,14 @@ use lib.ListN.{length, length-set}
 use lib.Seq.{sets}
 use mir.Syntax.{w64}
 use mir.Facts.{to_z-of_z}
-use Rattle.route_file.specs.Numbers.{signedFrom}
+use Rattle.route_file.specs.Numbers.{signed_from}
 use Rattle.route_file.proofs.Reading.{store-turn, store-end}
 use Rattle.route_file.proofs.inner.write_numbers.Statement.{statement}
 use Rattle.route_file.proofs.inner.write_numbers.Tie as tie
 
 abbrev invariant-loop : tie.invariant-loop
 invariant-loop file from n out₀ i₀ out i =
-    (length out ≡ length out₀) × (sets out i (signedFrom file (from + 2 * i) (n - i)) ≡ sets out₀ 0 (signedFrom file from n))
+    (length out ≡ length out₀) × (sets out i (signed_from file (from + 2 * i) (n - i)) ≡ sets out₀ 0 (signed_from file from n))
 
 abbrev decreases-loop : tie.decreases-loop
 decreases-loop file from n out₀ i₀ out i = n - i

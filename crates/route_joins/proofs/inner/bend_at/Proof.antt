@@ -1,7 +1,7 @@
 -- `route_joins::inner::bend_at` meets its contract. Assumes nothing.
 use borrow.Author.Rules.{rules}
-use Rattle.coordinates.proofs.Lists.{point-near}
-use Rattle.route_joins.specs.Joins.{bendAt}
+use Rattle.coordinates.proofs.Lists.{point_near}
+use Rattle.route_joins.specs.Joins.{bend_at}
 use Rattle.shapes.proofs.Widths.{thin-held, thin-back}
 use Rattle.route_joins.proofs.inner.bend_at.Statement.{statement}
 use Rattle.route_joins.proofs.inner.bend_at.Tie as tie
@@ -9,13 +9,13 @@ use Rattle.route_joins.proofs.inner.bend_at.Tie as tie
 from-points-requires : tie.Need-from-points-requires
 from-points-requires c κs =
     let s = c.before.before.before in
-    let near = point-near s.requires.0.near in (
+    let near = point_near s.requires.0.near in (
       rw c.before.before.point_at.ensures (near s.args.before),
       (rw c.before.point-at2.ensures (near s.args.i), (rw c.point-at3.ensures (near s.args.after), thin-back s.requires.0.thin)),
     )
 
 returns : tie.Need-returns
-unfolding bendAt
+unfolding bend_at
 returns c = cc (thin-held c.before.before.before.before.requires.0.thin).is
 
 pub bend-at-spec : {M : Type 1} → statement M

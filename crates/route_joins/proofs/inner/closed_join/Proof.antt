@@ -3,10 +3,10 @@ use mathlib.Core.Path.{sym}
 use Prim.Native.Nat.{◌+◌}
 use borrow.Author.Rules.{rules}
 use borrow.Author.Tests.{eq-eqb, ne_eqb}
-use Rattle.coordinates.proofs.Lists.{count-within, point-near}
+use Rattle.coordinates.proofs.Lists.{count-within, point_near}
 use Rattle.coordinates.proofs.Places.{after-inside, before-inside}
 use Rattle.route_joins.proofs.Near.{drawable-back}
-use Rattle.route_joins.specs.Joins.{closedJoin}
+use Rattle.route_joins.specs.Joins.{closed_join}
 use Rattle.shapes.proofs.Widths.{thin-held, thin-back}
 use Rattle.route_joins.proofs.inner.closed_join.Statement.{statement}
 use Rattle.route_joins.proofs.inner.closed_join.Tie as tie
@@ -17,10 +17,10 @@ add-if1 c = search (rules, c.point-count.ensures, count-within c.before.args.coo
 start-requires : tie.Need-start-requires
 start-requires c κs =
     let d = c.before.before.before.before.requires.0 in
-    (rw c.before.point_at.ensures (point-near d.near 0), (rw c.point-at2.ensures (point-near d.near 1), thin-back d.thin))
+    (rw c.before.point_at.ensures (point_near d.near 0), (rw c.point-at2.ensures (point_near d.near 1), thin-back d.thin))
 
 returns : tie.Need-returns
-unfolding closedJoin
+unfolding closed_join
 returns c =
     let p = c.before in
     let counted = p.before.before.before in
@@ -34,7 +34,7 @@ bend-at-requires c κs =
     (drawable-back s.requires.0, (rw (c.before.place-before.ensures, n) (before-inside i), (i, rw (c.place_after.ensures, n) (after-inside i))))
 
 returns-2 : tie.Need-returns-2
-unfolding closedJoin
+unfolding closed_join
 returns-2 c =
     let p = c.before in
     let counted = p.before.before.before in

@@ -1,15 +1,15 @@
 -- `route_joins::inner::end_place` meets its contract. Assumes nothing.
 use borrow.Author.Rules.{rules}
-use Rattle.route_joins.specs.Joins.{endPlace}
+use Rattle.route_joins.specs.Joins.{end_place}
 use Rattle.route_joins.proofs.inner.end_place.Statement.{statement}
 use Rattle.route_joins.proofs.inner.end_place.Tie as tie
 
 returns : tie.Need-returns
-unfolding endPlace
+unfolding end_place
 returns c = rw c.before.if1.true c.place_after.ensures
 
 returns-2 : tie.Need-returns-2
-unfolding endPlace
+unfolding end_place
 returns-2 c = rw c.if1.false
 
 pub end-place-spec : {M : Type 1} → statement M

@@ -2,16 +2,16 @@
 use mathlib.Core.Path.{sym}
 use borrow.Author.Rules.{rules}
 use borrow.Author.Tests.{le-leb, lt-leb}
-use Rattle.route_joins.specs.Joins.{joinCount}
+use Rattle.route_joins.specs.Joins.{join_count}
 use Rattle.route_joins.proofs.inner.join_count.Statement.{statement}
 use Rattle.route_joins.proofs.inner.join_count.Tie as tie
 
 returns : tie.Need-returns
-unfolding joinCount
+unfolding join_count
 returns c = rw (sym c.before.point-count.ensures, le-leb 2 c.before.point-count.result c.if1.true)
 
 returns-2 : tie.Need-returns-2
-unfolding joinCount
+unfolding join_count
 returns-2 c = rw (sym c.before.point-count.ensures, lt-leb 2 c.before.point-count.result c.if1.false)
 
 pub join-count-spec : {M : Type 1} → statement M

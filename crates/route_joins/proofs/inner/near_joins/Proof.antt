@@ -8,38 +8,38 @@ use borrow.Author.Rules.{rules}
 use mir.Syntax.{w64}
 use mir.Val.{to_z, of_z}
 use Rattle.route_joins.proofs.Near.{join-inside}
-use Rattle.route_joins.specs.Joins.{joinCount, isNearAt, nearJoins}
+use Rattle.route_joins.specs.Joins.{join_count, is_near_at, near_joins}
 use Rattle.shapes.proofs.Widths.{thin-held, thin-back}
 use Rattle.whole.proofs.Places.{fails-end, fails-next}
-use Rattle.whole.specs.Places.{failsFrom}
+use Rattle.whole.specs.Places.{fails_from}
 use Rattle.route_joins.proofs.inner.near_joins.Statement.{statement}
 use Rattle.route_joins.proofs.inner.near_joins.Tie as tie
 
 abbrev invariant-loop : tie.invariant-loop
 invariant-loop coordinates width closed limit count i₀ i =
-    (i ≤ count) × ((count ≡ joinCount coordinates)
-    × (failsFrom (isNearAt limit closed coordinates (to_z w64 width)) i (count - i) ≡ nearJoins limit closed coordinates (to_z w64 width)))
+    (i ≤ count) × ((count ≡ join_count coordinates)
+    × (fails_from (is_near_at limit closed coordinates (to_z w64 width)) i (count - i) ≡ near_joins limit closed coordinates (to_z w64 width)))
 
 abbrev decreases-loop : tie.decreases-loop
 decreases-loop coordinates width closed limit count i₀ i = count - i
 
 -- whether the join at a place is near, with the width as the calls have it
 abbrev test : tie.At-loop invariant-loop decreases-loop → ℕ → Bool
-test l j = let a = l.before.before.args in isNearAt a.limit a.closed a.coordinates.now (to_z w64 (of_z w64 a.width)) j
+test l j = let a = l.before.before.args in is_near_at a.limit a.closed a.coordinates.now (to_z w64 (of_z w64 a.width)) j
 
 here : (c : tie.After-is-join-near invariant-loop decreases-loop) → let l = c.before.before.before in test l l.loop.i ≡ c.is-join-near.result
 here c = cc
 
 -- the width is what it was
 all : (l : tie.At-loop invariant-loop decreases-loop) → let a = l.before.before.args in
-    nearJoins a.limit a.closed a.coordinates.now (to_z w64 (of_z w64 a.width)) ≡ nearJoins a.limit a.closed a.coordinates.now a.width
+    near_joins a.limit a.closed a.coordinates.now (to_z w64 (of_z w64 a.width)) ≡ near_joins a.limit a.closed a.coordinates.now a.width
 all l = cc (thin-held l.before.before.requires.1).is
 
 loop-holds : tie.Need-loop-init invariant-loop decreases-loop
-unfolding nearJoins
+unfolding near_joins
 loop-holds c =
     let e = c.join-count.ensures in
-    let whole : c.join-count.result - 0 ≡ joinCount c.before.args.coordinates.now = omega (arith, e) in
+    let whole : c.join-count.result - 0 ≡ join_count c.before.args.coordinates.now = omega (arith, e) in
     (omega arith, (e, rw whole))
 
 join-on-requires : tie.Need-join-on-requires invariant-loop decreases-loop

@@ -4,25 +4,25 @@ use Prim.Native.Nat.{◌+◌, ◌-◌}
 use native.Mathlib.Omega.{arith}
 use borrow.Author.Rules.{rules}
 use borrow.Author.Tests.{eq-eqb, ne_eqb}
-use Rattle.coordinates.proofs.Lists.{count-within, point-near}
-use Rattle.coordinates.specs.Points.{pointCount}
+use Rattle.coordinates.proofs.Lists.{count-within, point_near}
+use Rattle.coordinates.specs.Points.{point_count}
 use Rattle.route_joins.proofs.Near.{drawable-back}
-use Rattle.route_joins.specs.Joins.{openJoin}
+use Rattle.route_joins.specs.Joins.{open_join}
 use Rattle.shapes.proofs.Widths.{thin-held, thin-back}
 use Rattle.route_joins.proofs.inner.open_join.Statement.{statement}
 use Rattle.route_joins.proofs.inner.open_join.Tie as tie
 
 -- past both tests the point is not the last one
-inner : (c : tie.Else2) → let s = c.before.before.before in s.args.i + 1 ≡ pointCount s.args.coordinates.now → ⊥
+inner : (c : tie.Else2) → let s = c.before.before.before in s.args.i + 1 ≡ point_count s.args.coordinates.now → ⊥
 inner c e = c.if2.false (e ∙ sym c.before.point-count.ensures)
 
 start-requires : tie.Need-start-requires
 start-requires c κs =
     let d = c.before.before.before.requires.0 in
-    (rw c.before.point_at.ensures (point-near d.near 0), (rw c.point-at2.ensures (point-near d.near 1), thin-back d.thin))
+    (rw c.before.point_at.ensures (point_near d.near 0), (rw c.point-at2.ensures (point_near d.near 1), thin-back d.thin))
 
 returns : tie.Need-returns
-unfolding openJoin
+unfolding open_join
 returns c =
     let p = c.before in
     let s = p.before.before.before in
@@ -35,15 +35,15 @@ end-requires : tie.Need-end-requires
 end-requires c κs =
     let s = c.before.before.before.before.before in
     let d = s.requires.0 in
-    (rw c.before.point-at3.ensures (point-near d.near (s.args.i - 1)), (rw c.point-at4.ensures (point-near d.near s.args.i), thin-back d.thin))
+    (rw c.before.point-at3.ensures (point_near d.near (s.args.i - 1)), (rw c.point-at4.ensures (point_near d.near s.args.i), thin-back d.thin))
 
 returns-2 : tie.Need-returns-2
-unfolding openJoin
+unfolding open_join
 returns-2 c =
     let p = c.before in
     let s = p.before.before.before.before.before in
     let last = p.before.before.if2.true ∙ p.before.before.before.point-count.ensures in
-    rw (ne_eqb s.args.i 0 p.before.before.before.before.if1.false, eq-eqb (s.args.i + 1) (pointCount s.args.coordinates.now) last) (cc (thin-held s.requires.0.thin).is)
+    rw (ne_eqb s.args.i 0 p.before.before.before.before.if1.false, eq-eqb (s.args.i + 1) (point_count s.args.coordinates.now) last) (cc (thin-held s.requires.0.thin).is)
 
 bend-at-requires : tie.Need-bend-at-requires
 bend-at-requires c κs =
@@ -52,11 +52,11 @@ bend-at-requires c κs =
     (drawable-back s.requires.0, (omega (arith, i), (i, omega (arith, i, inner c))))
 
 returns-3 : tie.Need-returns-3
-unfolding openJoin
+unfolding open_join
 returns-3 c =
     let p = c.before in
     let s = p.before.before.before in
-    rw (ne_eqb s.args.i 0 p.before.before.if1.false, ne_eqb (s.args.i + 1) (pointCount s.args.coordinates.now) (inner p)) (cc (thin-held s.requires.0.thin).is)
+    rw (ne_eqb s.args.i 0 p.before.before.if1.false, ne_eqb (s.args.i + 1) (point_count s.args.coordinates.now) (inner p)) (cc (thin-held s.requires.0.thin).is)
 
 pub open-join-spec : {M : Type 1} → statement M
 open-join-spec = tie.close (tie.spec (λ c κs. search rules) (λ c κs. search rules) start-requires returns add-if2 (λ c κs. search rules) (λ c. search rules) (λ c κs. search rules) (λ c κs. search rules) end-requires returns-2 (λ c. search rules) (λ c. search rules) bend-at-requires returns-3)

@@ -1,11 +1,11 @@
 -- `route_joins::inner::segment_count` meets its contract. Assumes nothing.
 use borrow.Author.Rules.{rules}
-use Rattle.route_joins.specs.Joins.{segmentCount}
+use Rattle.route_joins.specs.Joins.{segment_count}
 use Rattle.route_joins.proofs.inner.segment_count.Statement.{statement}
 use Rattle.route_joins.proofs.inner.segment_count.Tie as tie
 
 returns : tie.Need-returns
-unfolding segmentCount
+unfolding segment_count
 returns c = rw c.before.point-count.ensures at c.segments-of.ensures
 
 pub segment-count-spec : {M : Type 1} → statement M

@@ -5,12 +5,12 @@ use native.Mathlib.Omega.{arith}
 use borrow.Author.Rules.{rules}
 use mir.Facts.{to_z-of_z}
 use Rattle.thick_segment.specs.declared.Segment.{Segment}
-use Rattle.thick_segment.specs.Segments.{isSegmentNear, farBend}
-use Rattle.coordinates.specs.Refusal.{routeRefusal}
+use Rattle.thick_segment.specs.Segments.{is_segment_near, far_bend}
+use Rattle.coordinates.specs.Refusal.{route_refusal}
 use Rattle.coordinates.proofs.Laws.{accepted-exactly}
 use Rattle.route_joins.specs.declared.Step.TheVariants.{Drawn, Refused}
-use Rattle.route_joins.specs.Joins.{segmentCount, segmentOf}
-use Rattle.route_joins.specs.Steps.{stepValues, routeStep, placeFrom}
+use Rattle.route_joins.specs.Joins.{segment_count, segment_of}
+use Rattle.route_joins.specs.Steps.{step_values, route_step, place_from}
 use Rattle.route_joins.proofs.Near.{drawable-back, accepted-drawable}
 use Rattle.route_joins.proofs.Walks.{step-refused, step_end, step-drawn, step-corner}
 use Rattle.route_joins.proofs.inner.step_at.Statement.{statement}
@@ -18,13 +18,13 @@ use Rattle.route_joins.proofs.inner.step_at.Tie as tie
 
 -- the walk, by its refusal, its count and its segments
 abbrev refused : tie.Start → ℕ
-refused s = routeRefusal s.args.limits.point s.args.closed s.args.coordinates.now s.args.width
+refused s = route_refusal s.args.limits.point s.args.closed s.args.coordinates.now s.args.width
 
 abbrev count : tie.Start → ℕ
-count s = segmentCount s.args.closed s.args.coordinates.now
+count s = segment_count s.args.closed s.args.coordinates.now
 
 abbrev segment : tie.Start → ℕ → Segment
-segment s = segmentOf s.args.closed s.args.coordinates.now s.args.width s.args.offset
+segment s = segment_of s.args.closed s.args.coordinates.now s.args.width s.args.offset
 
 abbrev corner : tie.Start → ℕ
 corner s = s.args.limits.corner
@@ -42,43 +42,43 @@ inside c = omega (arith, c.before.segment-count.ensures)
 here : (c : tie.After-segment-of) → let s = c.before.before.before.before.before in c.segment-of.result ≡ segment s s.args.place
 here c = cc (to_z-of_z c.before.before.before.before.before.ranges.width)
 
-near : (c : tie.After-is-segment-near) → let s = c.before.before.before.before.before.before in isSegmentNear (corner s) (segment s s.args.place) ≡ c.is-segment-near.result
+near : (c : tie.After-is-segment-near) → let s = c.before.before.before.before.before.before in is_segment_near (corner s) (segment s s.args.place) ≡ c.is-segment-near.result
 near c = cc (here c.before)
 
 returns : tie.Need-returns
-unfolding routeStep placeFrom stepValues
+unfolding route_step place_from step_values
 returns c =
     let s = c.before.before in
     let e = told c.before in
-    (ap (λ n. stepValues (Refused n 0)) e ∙ sym (step-refused (corner s) (refused s) (count s) (segment s) s.args.place (omega (arith, e))), refl)
+    (ap (λ n. step_values (Refused n 0)) e ∙ sym (step-refused (corner s) (refused s) (count s) (segment s) s.args.place (omega (arith, e))), refl)
 
 segment-of-requires : tie.Need-segment-of-requires
 segment-of-requires c κs =
     let s = c.before.before.before.before in
     let accepted = (accepted-exactly s.args.limits.point s.args.closed s.args.coordinates.now s.args.width).0 (none c.before.before) in
-    (drawable-back (accepted-drawable s.requires.point-room accepted (inside c)), inside c)
+    (drawable-back (accepted-drawable s.requires.point_room accepted (inside c)), inside c)
 
 returns-2 : tie.Need-returns-2
-unfolding routeStep placeFrom stepValues
+unfolding route_step place_from step_values
 returns-2 c =
     let n = c.before in
     let t = n.before.before in
     let e = t.before.before in
     let s = e.before.before in
-    (ap (λ d. stepValues (Drawn d)) (here n.before) ∙ sym (step-drawn (corner s) (refused s) (count s) (segment s) s.args.place (none e) (inside t) (near n ∙ c.if3.true)), refl)
+    (ap (λ d. step_values (Drawn d)) (here n.before) ∙ sym (step-drawn (corner s) (refused s) (count s) (segment s) s.args.place (none e) (inside t) (near n ∙ c.if3.true)), refl)
 
 returns-3 : tie.Need-returns-3
-unfolding routeStep placeFrom stepValues
+unfolding route_step place_from step_values
 returns-3 c =
     let n = c.before.before in
     let t = n.before.before in
     let e = t.before.before in
     let s = e.before.before in
-    let bend = c.far-bend.ensures ∙ ap (farBend (corner s)) (here n.before) in
-    (ap (λ b. stepValues (Refused 5 b)) bend ∙ sym (step-corner (corner s) (refused s) (count s) (segment s) s.args.place (none e) (inside t) (near n ∙ c.before.if3.false)), refl)
+    let bend = c.far-bend.ensures ∙ ap (far_bend (corner s)) (here n.before) in
+    (ap (λ b. step_values (Refused 5 b)) bend ∙ sym (step-corner (corner s) (refused s) (count s) (segment s) s.args.place (none e) (inside t) (near n ∙ c.before.if3.false)), refl)
 
 returns-4 : tie.Need-returns-4
-unfolding routeStep placeFrom stepValues
+unfolding route_step place_from step_values
 returns-4 c =
     let e = c.before.before in
     let s = e.before.before in

@@ -11,7 +11,7 @@ use mir.Syntax.{w64}
 use mir.Val.{to_z, of_z}
 use Rattle.route_file.specs.Answers.{coordinates}
 use Rattle.route_file.proofs.Laws.{enough}
-use Rattle.row_text.specs.Pixels.{routePixels, entryPixels}
+use Rattle.row_text.specs.Pixels.{route_pixels, entry_pixels}
 use Rattle.row_text.proofs.Laws.{handed-count, handed}
 use Rattle.row_text.proofs.inner.print_entry.Statement.{statement}
 use Rattle.row_text.proofs.inner.print_entry.Tie as tie
@@ -42,15 +42,15 @@ array-share-prefix-room : tie.Need-array-share-prefix-room
 array-share-prefix-room c = let p = c.before in omega (arith, room p, p.points.auto.1.1.0, length-replicate 32768 (pos 0))
 
 returns : tie.Need-returns
-unfolding entryPixels
+unfolding entry_pixels
 returns c =
     let p = c.before.before.before in
     let l = (start p).args.limits in
     let e = p.before.before.before.entry in
     to_z-of_z {w = w64} {z = c.print-route.result} (search rules) ∙ c.print-route.ensures
-    ∙ ap (λ cs. routePixels l e.result.closed cs (to_z w64 (of_z w64 e.result.width))) (numbers p)
-    ∙ ap (routePixels l e.result.closed (own p)) (to_z-of_z {w = w64} {z = e.result.width} (search rules))
-    ∙ ap (λ d. routePixels l d.closed (own p) d.width) e.ensures
+    ∙ ap (λ cs. route_pixels l e.result.closed cs (to_z w64 (of_z w64 e.result.width))) (numbers p)
+    ∙ ap (route_pixels l e.result.closed (own p)) (to_z-of_z {w = w64} {z = e.result.width} (search rules))
+    ∙ ap (λ d. route_pixels l d.closed (own p) d.width) e.ensures
 
 pub print-entry-spec : {M : Type 1} → statement M
 print-entry-spec =

@@ -4,16 +4,16 @@ use native.Mathlib.Omega.{arith}
 use borrow.Author.Rules.{rules}
 use mir.Facts.{to_z-of_z}
 use mir.Syntax.{w64}
-use Rattle.route.specs.Rows.{rowsRefusal}
-use Rattle.route.specs.Answers.{preparedOf, wholeRefusal}
+use Rattle.route.specs.Rows.{rows_refusal}
+use Rattle.route.specs.Answers.{prepared_of, whole_refusal}
 use Rattle.route.proofs.Chains.{Ready, ready, refused-with, named-with, whole-stopped, whole-made, verdict-stopped, verdict-made}
 use Rattle.route.proofs.Ranges.{rows-near}
-use Rattle.row_text.specs.Pixels.{litIn}
+use Rattle.row_text.specs.Pixels.{lit_in}
 use Rattle.row_text.proofs.Laws.{pixels-refused, pixels-drawn}
 use Rattle.row_text.proofs.inner.print_route.Statement.{statement}
 use Rattle.row_text.proofs.inner.print_route.Tie as tie
 
-told : (c : tie.After-prepare) → let a = c.before.args in c.prepare.result ≡ preparedOf a.limits a.closed a.coordinates.now a.width
+told : (c : tie.After-prepare) → let a = c.before.args in c.prepare.result ≡ prepared_of a.limits a.closed a.coordinates.now a.width
 told c = cc (to_z-of_z c.before.ranges.width)
 
 -- the joins of the route are not refused
@@ -22,12 +22,12 @@ free c = let p = c.before.before in let a = p.before.args in ready a.limits a.cl
 
 -- 8 is what is left
 room : (c : tie.After-rows-refusal) → let a = c.before.before.before.before.before.before.args in
-    c.rows-refusal.result ≡ wholeRefusal a.limits a.closed a.coordinates.now a.width
+    c.rows-refusal.result ≡ whole_refusal a.limits a.closed a.coordinates.now a.width
 room c =
     let e = c.before.before.before in
     let p = e.before.before in
     let a = p.before.args in
-    c.rows-refusal.ensures ∙ ap (rowsRefusal p.prepare.result.joins) c.before.rows_of_lem.ensures ∙ whole-made a.limits a.closed a.coordinates.now a.width (free e)
+    c.rows-refusal.ensures ∙ ap (rows_refusal p.prepare.result.joins) c.before.rows_of_lem.ensures ∙ whole-made a.limits a.closed a.coordinates.now a.width (free e)
 
 -- what is printed of a refused route is what it is refused with, and its bend
 print-refused-requires : tie.Need-print-refused-requires
@@ -58,7 +58,7 @@ print-refused-requires-2 c κs =
     let s = p.before in
     let a = s.args in
     rw (to_z-of_z s.ranges.width)
-    (verdict-made a.limits a.closed a.coordinates.now a.width (free e) (r.rows-refusal.ensures ∙ ap (rowsRefusal p.prepare.result.joins) r.before.rows_of_lem.ensures))
+    (verdict-made a.limits a.closed a.coordinates.now a.width (free e) (r.rows-refusal.ensures ∙ ap (rows_refusal p.prepare.result.joins) r.before.rows_of_lem.ensures))
 
 returns-2 : tie.Need-returns-2
 returns-2 c =
@@ -79,7 +79,7 @@ returns-3 c =
     let o = r.before in
     let p = o.before.before.before.before in
     let s = p.before in
-    to_z-of_z {w = w64} {z = c.print-rows.result} (search rules) ∙ c.print-rows.ensures ∙ ap (litIn p.prepare.result.joins) o.rows_of_lem.ensures
+    to_z-of_z {w = w64} {z = c.print-rows.result} (search rules) ∙ c.print-rows.ensures ∙ ap (lit_in p.prepare.result.joins) o.rows_of_lem.ensures
     ∙ pixels-drawn s.requires s.args.closed s.args.coordinates.now s.args.width (free o.before.before) (omega (arith, room r, c.before.if2.false))
 
 pub print-route-spec : {M : Type 1} → statement M

@@ -11,8 +11,8 @@ use mir.Val.{of_z}
 use Rattle.whole.specs.Number.{Within}
 use Rattle.whole.proofs.Bounds.{within_more, within-add}
 use Rattle.whole.proofs.Machine.{Hold, hold, hold-as, hold-add, fits-add}
-use Rattle.route_file.specs.Form.{routeCount}
-use Rattle.row_text.specs.Pixels.{sumFrom, entryPixels, allPixels}
+use Rattle.route_file.specs.Form.{route_count}
+use Rattle.row_text.specs.Pixels.{sum_from, entry_pixels, all_pixels}
 use Rattle.row_text.proofs.Sums.{sum-begun, sum-turn, sum_done}
 use Rattle.row_text.proofs.Laws.{most, entry-pixels}
 use Rattle.row_text.proofs.inner.print_routes.Statement.{statement}
@@ -20,21 +20,21 @@ use Rattle.row_text.proofs.inner.print_routes.Tie as tie
 
 abbrev invariant-loop : tie.invariant-loop
 invariant-loop file limits n sum₀ k₀ sum k =
-    (k ≤ n) × ((n ≡ routeCount file) × (Within sum.total (most * most * k) × (sum.total +ℤ sumFrom (entryPixels limits file) k (n - k) ≡ allPixels limits file)))
+    (k ≤ n) × ((n ≡ route_count file) × (Within sum.total (most * most * k) × (sum.total +ℤ sum_from (entry_pixels limits file) k (n - k) ≡ all_pixels limits file)))
 
 abbrev decreases-loop : tie.decreases-loop
 decreases-loop file limits n sum₀ k₀ sum k = n - k
 
 module _ (c : tie.After-count-of invariant-loop decreases-loop) where
   abbrev pixels : ℕ → ℤ
-  pixels = let a = c.before.before.args in entryPixels a.limits a.file.now
+  pixels = let a = c.before.before.args in entry_pixels a.limits a.file.now
 
 loop-holds : tie.Need-loop-init invariant-loop decreases-loop
-unfolding allPixels
+unfolding all_pixels
 loop-holds c =
     let o = c.before.before.before.before.before in
     let n = o.count_of.ensures in
-    (omega arith, (n, (record { bound = omega arith }, sum-begun (pixels o) o.count_of.result ∙ ap (sumFrom (pixels o) 0) n)))
+    (omega arith, (n, (record { bound = omega arith }, sum-begun (pixels o) o.count_of.result ∙ ap (sum_from (pixels o) 0) n)))
 
 -- ---- in a turn of the loop
 

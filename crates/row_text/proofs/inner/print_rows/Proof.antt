@@ -14,9 +14,9 @@ use Rattle.whole.proofs.Places.{list-next}
 use Rattle.shapes.proofs.Choices.{or-none}
 use Rattle.whole.proofs.Bounds.{within_more, within-add}
 use Rattle.whole.proofs.Machine.{Hold, hold, hold-as, hold-add, fits-add}
-use Rattle.route.specs.Rows.{boardOn, rowCount, rowAt, first_of, room_at, rowsRefusal}
+use Rattle.route.specs.Rows.{board_on, row_count, row_at, first_of, room_at, rows_refusal}
 use Rattle.route.proofs.Ranges.{count_small, row_within}
-use Rattle.row_text.specs.Pixels.{sumFrom, litOn, litAt, litIn}
+use Rattle.row_text.specs.Pixels.{sum_from, lit_on, lit_at, lit_in}
 use Rattle.row_text.proofs.Sums.{sum-begun, sum-turn, sum_done}
 use Rattle.row_text.proofs.Laws.{most, place-pixels}
 use Rattle.row_text.proofs.inner.print_rows.Statement.{statement}
@@ -24,20 +24,20 @@ use Rattle.row_text.proofs.inner.print_rows.Tie as tie
 
 abbrev invariant-loop : tie.invariant-loop
 invariant-loop k route rows n sum₀ i₀ sum i =
-    (i ≤ n) × ((n ≡ rowCount rows) × ((Within sum.total (most * i) × (sum.total +ℤ sumFrom (litAt route rows) i (n - i) ≡ litIn route rows))
+    (i ≤ n) × ((n ≡ row_count rows) × ((Within sum.total (most * i) × (sum.total +ℤ sum_from (lit_at route rows) i (n - i) ≡ lit_in route rows))
     × (first_of (list_from (room_at route rows) i (n - i)) ≡ 0)))
 
 abbrev decreases-loop : tie.decreases-loop
 decreases-loop k route rows n sum₀ i₀ sum i = n - i
 
 loop-holds : tie.Need-loop-init invariant-loop decreases-loop
-unfolding litIn rowsRefusal
+unfolding lit_in rows_refusal
 loop-holds c =
     let n = c.row_count.ensures in
     let a = c.before.args in
-    let lit = litAt a.route a.rows in
-    let all : c.row_count.result - 0 ≡ rowCount a.rows = omega (arith, n) in
-    (omega arith, (n, ((record { bound = omega arith }, sum-begun lit c.row_count.result ∙ ap (sumFrom lit 0) n), rw all c.before.requires.1.1)))
+    let lit = lit_at a.route a.rows in
+    let all : c.row_count.result - 0 ≡ row_count a.rows = omega (arith, n) in
+    (omega arith, (n, ((record { bound = omega arith }, sum-begun lit c.row_count.result ∙ ap (sum_from lit 0) n), rw all c.before.requires.1.1)))
 
 -- ---- in a turn of the loop
 
@@ -49,9 +49,9 @@ module _ (c : tie.In-loop invariant-loop decreases-loop) where
   place = c.before.loop.i
 
   abbrev lit-at : ℕ → ℤ
-  lit-at = litAt start.args.route start.args.rows
+  lit-at = lit_at start.args.route start.args.rows
 
-  inner : place < rowCount start.args.rows
+  inner : place < row_count start.args.rows
   inner = omega (arith, c.loop-test.true, c.before.loop.invariant.1.0)
 
   few : place < most
@@ -69,21 +69,21 @@ module _ (c : tie.In-loop invariant-loop decreases-loop) where
       (or-none (room place) (first_of (list_from room (place + 1) (n - (place + 1))))).0
       (ap first_of (sym (list-next room n place c.loop-test.true)) ∙ c.before.loop.invariant.1.1.1)
 
-at : (c : tie.After-row-at invariant-loop decreases-loop) → to_z w64 (of_z w64 c.row_at.result) ≡ rowAt (start c.before).args.rows (place c.before)
+at : (c : tie.After-row-at invariant-loop decreases-loop) → to_z w64 (of_z w64 c.row_at.result) ≡ row_at (start c.before).args.rows (place c.before)
 at c = to_z-of_z {w = w64} {z = c.row_at.result} (search rules) ∙ c.row_at.ensures
 
 -- the pixels of the row
 pixels-held : (c : tie.After-print-row invariant-loop decreases-loop) → let l = c.before.before in Hold (of_z w64 c.print-row.result) (lit-at l (place l)) most
-unfolding litAt
+unfolding lit_at
 pixels-held c =
     let l = c.before.before in
-    hold-as (c.print-row.ensures ∙ ap (litOn (start l).args.route) (at c.before)) (place-pixels (start l).requires.0 (start l).requires.1.0 (inner l)) tt
+    hold-as (c.print-row.ensures ∙ ap (lit_on (start l).args.route) (at c.before)) (place-pixels (start l).requires.0 (start l).requires.1.0 (inner l)) tt
 
 print-row-requires : tie.Need-print-row-requires invariant-loop decreases-loop
 print-row-requires c κs =
     let l = c.before in
     let s = start l in
-    (s.pre.0, (rw (at c) (row_within s.pre.1.0 (inner l)), ap (λ y. (boardOn s.args.route y).refusal) (at c) ∙ (none-refused l).0))
+    (s.pre.0, (rw (at c) (row_within s.pre.1.0 (inner l)), ap (λ y. (board_on s.args.route y).refusal) (at c) ∙ (none-refused l).0))
 
 loop-again : tie.Need-loop-preserved invariant-loop decreases-loop
 loop-again c =
@@ -109,7 +109,7 @@ returns c =
     let l = c.before.before in
     let a = l.before.before.args in
     to_z-of_z {w = w64} {z = l.loop.sum.total} (search rules)
-    ∙ sum_done (litAt a.route a.rows) l.loop.sum.total _ l.before.row_count.result l.loop.i l.loop.invariant.1.1.0.1 c.before.loop-test.false
+    ∙ sum_done (lit_at a.route a.rows) l.loop.sum.total _ l.before.row_count.result l.loop.i l.loop.invariant.1.1.0.1 c.before.loop-test.false
 
 pub print-rows-spec : {M : Type 1} → statement M
 print-rows-spec =

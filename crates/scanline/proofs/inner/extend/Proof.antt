@@ -7,7 +7,7 @@ use mir.Val.{SFits, of_z}
 use mir.Facts.{to_z-of_z}
 use Rattle.whole.proofs.Machine.{Hold, hold, literal, fits-add, hold-add, lt_back, le-back}
 use Rattle.shapes.specs.declared.Span.{Span}
-use Rattle.shapes.specs.Limits.{productLimit}
+use Rattle.shapes.specs.Limits.{product_limit}
 use Rattle.scanline.specs.Spans.{extended}
 use Rattle.scanline.proofs.inner.extend.Statement.{statement}
 use Rattle.scanline.proofs.inner.extend.Tie as tie
@@ -17,7 +17,7 @@ record Known (s : Span) (x : ℤ) : Type 0 where
   start : SFits w64 s.start
   end : SFits w64 s.end
   fits : SFits w64 x
-  small : Hold (of_z w64 x) x productLimit
+  small : Hold (of_z w64 x) x product_limit
 
 known : (c : tie.After-is-empty) → Known c.before.before.before.before.args.span c.before.before.before.before.args.column
 known c =

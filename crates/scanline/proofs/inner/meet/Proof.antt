@@ -9,11 +9,11 @@ use mir.Val.{to_z, of_z}
 use mir.Facts.{to_z-of_z}
 use Rattle.whole.proofs.Bounds.{within_more}
 use Rattle.whole.proofs.Machine.{Hold, hold-as}
-use Rattle.shapes.specs.Limits.{lineLimit}
+use Rattle.shapes.specs.Limits.{line_limit}
 use Rattle.shapes.specs.declared.Line.{Line}
 use Rattle.shapes.specs.declared.Span.{Span}
 use Rattle.bresenham.specs.Paces.{Between}
-use Rattle.scanline.specs.Rows.{has_row, endsOn, firstOn, lastOn}
+use Rattle.scanline.specs.Rows.{has_row, ends_on, first_on, last_on}
 use Rattle.scanline.proofs.Rows.{row-exactly, counts-small, at-near, first-at, last-at, met-row}
 use Rattle.scanline.proofs.Laws.{met-off}
 use Rattle.scanline.proofs.inner.meet.Statement.{statement}
@@ -38,7 +38,7 @@ on c = (row-exactly (line c.before) (span c.before).row).0 (sym (tested c.before
 ends-on-requires : tie.Need-ends-on-requires
 ends-on-requires c κs = (c.before.before.before.requires, rw (row_is c.before) (on c))
 
-ends : (c : tie.After-ends-on) → c.ends_on.result ≡ endsOn (line c.before.before) (span c.before.before).row
+ends : (c : tie.After-ends-on) → c.ends_on.result ≡ ends_on (line c.before.before) (span c.before.before).row
 ends c = cc (row_is c.before.before)
 
 -- both counts of columns are small
@@ -52,13 +52,13 @@ column-at-requires-2 : tie.Need-column-at-requires-2
 column-at-requires-2 c κs = (c.before.before.before.before.before.requires, omega (arith, small c.before))
 
 -- the two columns, in their bits
-first : (c : tie.After-column-at) → Hold (of_z w64 c.column-at.result) (firstOn (line c.before.before.before) (span c.before.before.before).row) lineLimit
+first : (c : tie.After-column-at) → Hold (of_z w64 c.column-at.result) (first_on (line c.before.before.before) (span c.before.before.before).row) line_limit
 first c =
     let s = c.before.before.before in
     let o = on c.before.before in
     hold-as {r = c.column-at.result} (rw (ends c.before) at c.column-at.ensures) (at-near (line s) (span s).row o s.before.before.requires (first-at (line s) (span s).row o)) tt
 
-last : (c : tie.After-column-at2) → Hold (of_z w64 c.column-at2.result) (lastOn (line c.before.before.before.before) (span c.before.before.before.before).row) lineLimit
+last : (c : tie.After-column-at2) → Hold (of_z w64 c.column-at2.result) (last_on (line c.before.before.before.before) (span c.before.before.before.before).row) line_limit
 last c =
     let s = c.before.before.before.before in
     let o = on c.before.before.before in

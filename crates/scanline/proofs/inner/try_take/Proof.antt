@@ -1,6 +1,6 @@
 use mathlib.Core.Bool.{true}
 use mathlib.Core.Path.{sym, ap, ◌∙◌}
-use Rattle.scanline.specs.Spans.{newSpan}
+use Rattle.scanline.specs.Spans.{new_span}
 use borrow.Author.Rules.{rules}
 use mir.Syntax.{w64}
 use mir.Facts.{to_z-of_z}
@@ -14,7 +14,7 @@ returns c = cc (take_none c.before.before.before.args.span (cc))
 returns-2 : tie.Need-returns-2
 returns-2 c =
     let s = c.before.before.before.before.args.span in
-    ap (λ r. record { taken = true; span = s; rest = r }) (c.new-span2.ensures ∙ ap newSpan (to_z-of_z {w = w64} {z = s.row} (search rules))) ∙ sym (take-some s (cc))
+    ap (λ r. record { taken = true; span = s; rest = r }) (c.new-span2.ensures ∙ ap new_span (to_z-of_z {w = w64} {z = s.row} (search rules))) ∙ sym (take-some s (cc))
 
 pub try-take-spec : {M : Type 1} → statement M
 try-take-spec = tie.close (tie.spec (λ c κs. search rules) (λ c κs. search rules) returns (λ c κs. search rules) returns-2)

@@ -4,9 +4,9 @@ use mir.Syntax.{w64}
 use mir.Val.{of_z}
 use mir.Facts.{to_z-of_z}
 use Rattle.whole.proofs.Machine.{Hold, hold, fits_sub, hold-sub}
-use Rattle.shapes.specs.Limits.{lineLimit}
+use Rattle.shapes.specs.Limits.{line_limit}
 use Rattle.bresenham.specs.Paces.{wide, tall}
-use Rattle.scanline.specs.Rows.{rows_to, endsOn}
+use Rattle.scanline.specs.Rows.{rows_to, ends_on}
 use Rattle.scanline.proofs.Rows.{ends-within, sizes}
 use Rattle.scanline.proofs.quotients.ends_on.Statement.{statement}
 use Rattle.scanline.proofs.quotients.ends_on.Tie as tie
@@ -15,11 +15,11 @@ abbrev start : tie.After-size2 → tie.Start
 start c = c.before.before.before.before.before.before.before
 
 -- the row and the line's first row, in their bits
-row : (c : tie.After-size2) → Hold (of_z w64 (start c).args.row) (start c).args.row lineLimit
-row c = let p = (start c).requires in hold (ends-within p.0.start-near.y-near p.0.end-near.y-near p.1) tt
+row : (c : tie.After-size2) → Hold (of_z w64 (start c).args.row) (start c).args.row line_limit
+row c = let p = (start c).requires in hold (ends-within p.0.start_near.y_near p.0.end_near.y_near p.1) tt
 
-first : (c : tie.After-size2) → Hold (of_z w64 (start c).args.line.start.y) (start c).args.line.start.y lineLimit
-first c = hold (start c).requires.0.start-near.y-near tt
+first : (c : tie.After-size2) → Hold (of_z w64 (start c).args.line.start.y) (start c).args.line.start.y line_limit
+first c = hold (start c).requires.0.start_near.y_near tt
 
 sub-size : tie.Need-overflow-sub-size
 sub-size c = fits_sub (row c) (first c) tt
@@ -38,7 +38,7 @@ ends-at-requires : tie.Need-ends-at-requires
 ends-at-requires c κs = let s = start c.before in sizes s.args.line s.args.row s.pre.1 s.pre.0 (wide_is c) (tall-is c) (rows_are c)
 
 returns : tie.Need-returns
-unfolding endsOn
+unfolding ends_on
 returns c = cc (wide_is c.before, tall-is c.before, rows_are c.before)
 
 pub ends-on-spec : {M : Type 1} → statement M

@@ -1,7 +1,7 @@
 use Prim.Native.Nat.{◌*◌}
 use native.Mathlib.Omega.{arith}
 use borrow.Author.Rules.{rules}
-use Rattle.bresenham.specs.Paces.{turnsAt}
+use Rattle.bresenham.specs.Paces.{turns_at}
 use Rattle.scanline.proofs.Rows.{product_small}
 use Rattle.scanline.proofs.quotients.turns_at.Statement.{statement}
 use Rattle.scanline.proofs.quotients.turns_at.Tie as tie
@@ -13,7 +13,7 @@ add-result : tie.Need-overflow-add-result
 add-result c = omega (arith, product_small {m = c.args.r} {n = 2 * c.args.w} (omega arith) (omega arith))
 
 returns : tie.Need-returns
-unfolding turnsAt
+unfolding turns_at
 returns c = search rules
 
 pub turns-at-spec : {M : Type 1} → statement M

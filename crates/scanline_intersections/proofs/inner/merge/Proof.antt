@@ -10,14 +10,14 @@ use lib.IntN.{ℤ}
 use mir.Syntax.{w64}
 use mir.Val.{to_z, of_z}
 use mir.Facts.{to_z-of_z}
-use Rattle.shapes.specs.Limits.{lineLimit}
+use Rattle.shapes.specs.Limits.{line_limit}
 use Rattle.shapes.proofs.Widths.{thin-held, thin-back}
-use Rattle.scanline.specs.Spans.{tryExtended}
+use Rattle.scanline.specs.Spans.{try_extended}
 use Rattle.thick_segment.specs.Segments.{SegmentNear}
-use Rattle.coordinates.specs.Points.{pointCount, segmentsOf}
-use Rattle.route_joins.specs.Joins.{openCount, areJoinsNear, segmentCount}
-use Rattle.scanline_intersections.specs.Segments.{spanAt, spansFrom}
-use Rattle.scanline_intersections.specs.Merging.{mergedNext, nextMerged, walk_of}
+use Rattle.coordinates.specs.Points.{point_count, segments_of}
+use Rattle.route_joins.specs.Joins.{open_count, are_joins_near, segment_count}
+use Rattle.scanline_intersections.specs.Segments.{span_at, spans_from}
+use Rattle.scanline_intersections.specs.Merging.{merged_next, next_merged, walk_of}
 use Rattle.scanline_intersections.proofs.Spans.{segment-near, merged-more, merged-stop, merged-end}
 use Rattle.scanline_intersections.proofs.inner.merge.Statement.{statement}
 use Rattle.scanline_intersections.proofs.inner.merge.Tie as tie
@@ -25,8 +25,8 @@ use Rattle.scanline_intersections.proofs.inner.merge.Tie as tie
 abbrev invariant-loop : tie.invariant-loop
 invariant-loop coordinates width place₀ gathered₀ row count place gathered =
     let w = to_z w64 width in
-    let spans = spansFrom coordinates w (to_z w64 row) in
-    (count ≡ openCount coordinates) × (mergedNext place w gathered (spans place) ≡ mergedNext place₀ w gathered₀ (spans place₀))
+    let spans = spans_from coordinates w (to_z w64 row) in
+    (count ≡ open_count coordinates) × (merged_next place w gathered (spans place) ≡ merged_next place₀ w gathered₀ (spans place₀))
 
 abbrev decreases-loop : tie.decreases-loop
 decreases-loop coordinates width place₀ gathered₀ row count place gathered = count - place
@@ -48,31 +48,31 @@ width_is : (l : tie.At-loop invariant-loop decreases-loop) → width l ≡ (begi
 width_is l = (thin-held (begin l).requires.1.0).is
 
 -- what the invariant says is left gives the answer
-left : (l : tie.At-loop invariant-loop decreases-loop) → mergedNext l.loop.place (width l) l.loop.gathered (spansFrom (list l) (width l) (row l) l.loop.place) ≡ nextMerged (list l) (begin l).args.walk
-unfolding nextMerged
+left : (l : tie.At-loop invariant-loop decreases-loop) → merged_next l.loop.place (width l) l.loop.gathered (spans_from (list l) (width l) (row l) l.loop.place) ≡ next_merged (list l) (begin l).args.walk
+unfolding next_merged
 left l =
     let a = (begin l).args.walk in
     l.loop.invariant.1
-    ∙ ap₂ (λ w row. mergedNext a.place w a.span (spansFrom (list l) w row a.place)) (width_is l) (to_z-of_z {w = w64} {z = a.span.row} (search rules))
+    ∙ ap₂ (λ w row. merged_next a.place w a.span (spans_from (list l) w row a.place)) (width_is l) (to_z-of_z {w = w64} {z = a.span.row} (search rules))
 
 -- the segment and the span at the place, and whether it is gathered
-inside : (c : tie.In-loop invariant-loop decreases-loop) → c.before.loop.place < openCount (list c.before)
+inside : (c : tie.In-loop invariant-loop decreases-loop) → c.before.loop.place < open_count (list c.before)
 inside c = omega (arith, c.before.loop.invariant.0)
 
-several : (c : tie.In-loop invariant-loop decreases-loop) → 2 ≤ pointCount (list c.before)
-unfolding segmentCount segmentsOf
+several : (c : tie.In-loop invariant-loop decreases-loop) → 2 ≤ point_count (list c.before)
+unfolding segment_count segments_of
 several c = omega (arith, inside c)
 
-near : (c : tie.After-segment-of invariant-loop decreases-loop) → SegmentNear lineLimit c.segment-of.result
+near : (c : tie.After-segment-of invariant-loop decreases-loop) → SegmentNear line_limit c.segment-of.result
 near c =
     let l = c.before.before in
-    let all = ap (areJoinsNear lineLimit false (list l)) (width_is l) ∙ (begin l).requires.1.1 in
+    let all = ap (are_joins_near line_limit false (list l)) (width_is l) ∙ (begin l).requires.1.1 in
     rw c.segment-of.ensures (segment-near (list l) (width l) all (inside c.before))
 
-other-is : (c : tie.After-span invariant-loop decreases-loop) → let l = c.before.before.before in c.span.result ≡ spanAt (list l) (width l) (row l) l.loop.place
+other-is : (c : tie.After-span invariant-loop decreases-loop) → let l = c.before.before.before in c.span.result ≡ span_at (list l) (width l) (row l) l.loop.place
 other-is c = cc
 
-tried-is : (c : tie.After-try-extend invariant-loop decreases-loop) → let l = c.before.before.before.before in c.try-extend.result ≡ tryExtended l.loop.gathered (spanAt (list l) (width l) (row l) l.loop.place)
+tried-is : (c : tie.After-try-extend invariant-loop decreases-loop) → let l = c.before.before.before.before in c.try-extend.result ≡ try_extended l.loop.gathered (span_at (list l) (width l) (row l) l.loop.place)
 tried-is c = cc (other-is c.before)
 
 loop-holds : tie.Need-loop-init invariant-loop decreases-loop

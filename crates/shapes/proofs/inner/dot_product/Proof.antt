@@ -1,5 +1,5 @@
 use Rattle.whole.proofs.Machine.{fits-mul, fits-add, hold-mul, hold-add}
-use Rattle.shapes.specs.Shape.{dotProduct}
+use Rattle.shapes.specs.Shape.{dot_product}
 use Rattle.shapes.proofs.Laws.{x-held, y-held}
 use Rattle.shapes.proofs.inner.dot_product.Statement.{statement}
 use Rattle.shapes.proofs.inner.dot_product.Tie as tie
@@ -14,7 +14,7 @@ add-result : tie.Need-overflow-add-result
 add-result c = let p = c.before.before.before.before.before.before.before.before.requires in fits-add (hold-mul (x-held p.0 tt) (x-held p.1 tt) tt) (hold-mul (y-held p.0 tt) (y-held p.1 tt) tt) tt
 
 returns : tie.Need-returns
-unfolding dotProduct
+unfolding dot_product
 returns c = let p = c.before.before.before.before.before.before.before.before.requires in (hold-add (hold-mul (x-held p.0 tt) (x-held p.1 tt) tt) (hold-mul (y-held p.0 tt) (y-held p.1 tt) tt) tt).is
 
 pub dot-product-spec : {M : Type 1} → statement M

@@ -1,10 +1,10 @@
 use borrow.Author.Rules.{rules}
-use Rattle.shapes.specs.Shape.{isLineNear}
+use Rattle.shapes.specs.Shape.{is_line_near}
 use Rattle.shapes.proofs.inner.is_line_near.Statement.{statement}
 use Rattle.shapes.proofs.inner.is_line_near.Tie as tie
 
 returns : tie.Need-returns
-unfolding isLineNear
+unfolding is_line_near
 returns c = cc
 
 pub is-line-near-spec : {M : Type 1} → statement M

@@ -25,7 +25,7 @@ div-t5 c = (lit< tt, fits-quot (dy c.before.before.before.before) (literal 2 tt)
 plus-requires : tie.Need-plus-requires
 plus-requires c κs =
     let d = c.before.before.before.before in
-    (near-more d.before.requires.start-near (lit≤ tt), near-held (hold-quot (dx d) (literal 2 tt) tt) (hold-quot (dy d) (literal 2 tt) tt) (lit≤ tt) (lit≤ tt))
+    (near-more d.before.requires.start_near (lit≤ tt), near-held (hold-quot (dx d) (literal 2 tt) tt) (hold-quot (dy d) (literal 2 tt) tt) (lit≤ tt) (lit≤ tt))
 
 returns : tie.Need-returns
 unfolding midpoint

@@ -22,7 +22,7 @@ sub-t6 c = fits_neg (dx c.before.before) tt
 plus-requires : tie.Need-plus-requires
 plus-requires c κs =
     let d = c.before.before.before in
-    (near-more d.before.before.requires.start-near (lit≤ tt), near-held (dy d) (hold-neg (dx d) tt) (lit≤ tt) (lit≤ tt))
+    (near-more d.before.before.requires.start_near (lit≤ tt), near-held (dy d) (hold-neg (dx d) tt) (lit≤ tt) (lit≤ tt))
 
 returns : tie.Need-returns
 unfolding perpendicular

@@ -9,7 +9,7 @@ use Rattle.whole.proofs.Machine.{le-back}
 use Rattle.whole.proofs.Orders.{ordered}
 use Rattle.whole.proofs.Spans.{fits-between}
 use Rattle.shapes.specs.declared.Span.{Span}
-use Rattle.shapes.specs.Spans.{is_empty, isSpanSound}
+use Rattle.shapes.specs.Spans.{is_empty, is_span_sound}
 use Rattle.shapes.proofs.spans.is_sound.Statement.{statement}
 use Rattle.shapes.proofs.spans.is_sound.Tie as tie
 
@@ -33,14 +33,14 @@ last-is : (c : tie.Else1) → to_z w64 (of_z w64 (to_z w64 (of_z w64 c.before.be
 last-is c = rw (to_z-of_z (known c.before).end) (to_z-of_z (last_fits c))
 
 returns : tie.Need-returns
-unfolding isSpanSound is_empty
+unfolding is_span_sound is_empty
 returns c = let k = known c.before in simp (le-back k.end k.start c.if1.true)
 
 sub_within : tie.Need-overflow-sub-within
 sub_within c = rw (to_z-of_z (known c.before.before).end) (last_fits c.before)
 
 returns-2 : tie.Need-returns-2
-unfolding isSpanSound is_empty
+unfolding is_span_sound is_empty
 returns-2 c =
     let e = c.before.before.before in
     let k = known e.before in

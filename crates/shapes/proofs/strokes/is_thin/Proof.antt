@@ -1,16 +1,16 @@
 use lib.IntN.{pos}
 use mir.Facts.{to_z-of_z}
 use Rattle.whole.proofs.Squares.{lt_not_le, not-lt-le}
-use Rattle.shapes.specs.Strokes.{isThin}
+use Rattle.shapes.specs.Strokes.{is_thin}
 use Rattle.shapes.proofs.strokes.is_thin.Statement.{statement}
 use Rattle.shapes.proofs.strokes.is_thin.Tie as tie
 
 returns : tie.Need-returns
-unfolding isThin
+unfolding is_thin
 returns c = simp (lt_not_le c.before.args.width (pos 0) (simp (to_z-of_z c.before.ranges.width) at c.if1.true))
 
 returns-2 : tie.Need-returns-2
-unfolding isThin
+unfolding is_thin
 returns-2 c =
     let back = to_z-of_z c.before.ranges.width in
     simp (back, not-lt-le c.before.args.width (pos 0) (simp back at c.if1.false))

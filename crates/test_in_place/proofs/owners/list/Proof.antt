@@ -54,8 +54,8 @@ use Rattle.board.specs.contracts.Board as B
 use Rattle.board.proofs.Board.TheLaws as B'
 use Rattle.board.specs.contracts.Listed as S
 use Rattle.board.proofs.Listed.TheLaws as S'
-use Rattle.shapes.specs.Limits.{cornerLimit}
-use Rattle.board_records.specs.Records.{bothListed, numbersTo, recordsTo}
+use Rattle.shapes.specs.Limits.{corner_limit}
+use Rattle.board_records.specs.Records.{both_listed, numbers_to, records_to}
 use Rattle.board_records.proofs.Values.{held, head-is}
 use Rattle.board_records.specs.contracts.list_records as list-records
 use Rattle.board_records.proofs.list_records.Symbol as list-records-def
@@ -90,13 +90,13 @@ runs xs = only (array_vals (LL.vals T.the_type T'.the_laws) xs)
 again-is : (r : Listed) (v : Val) → Is S.the_row r (v ∷ []) → Is S.the_row r (gave r ∷ [])
 again-is r v is = LL.owes S.the_type S'.the_laws r (LL.owed S.the_type S'.the_laws r _ is)
 
-abbrev listsVal : Listed → List ℤ → List Run → Val
-listsVal r ws ws' = vstruct (vcons (gave r) (vcons (ints ws) (vcons (runs ws') vnil)))
+abbrev lists_val : Listed → List ℤ → List Run → Val
+lists_val r ws ws' = vstruct (vcons (gave r) (vcons (ints ws) (vcons (runs ws') vnil)))
 
 abbrev made : Listed → List ℤ → List Run → Lists
 made r ws ws' = record { listed = r; numbers = ws; records = ws' }
 
-made-is : (r : Listed) (ws : List ℤ) (ws' : List Run) → Is S.the_row r (gave r ∷ []) → Is (Array i64 12) ws (ints ws ∷ []) → Is (Array R 4) ws' (runs ws' ∷ []) → Is X.the_row (made r ws ws') (listsVal r ws ws' ∷ [])
+made-is : (r : Listed) (ws : List ℤ) (ws' : List Run) → Is S.the_row r (gave r ∷ []) → Is (Array i64 12) ws (ints ws ∷ []) → Is (Array R 4) ws' (runs ws' ∷ []) → Is X.the_row (made r ws ws') (lists_val r ws ws' ∷ [])
 made-is r ws ws' is p p' = (
   (gave r ∷ [], (ints ws ∷ [], (runs ws' ∷ [], tt))),
   (
@@ -144,15 +144,15 @@ module _ {M : Type 1} {𝓤 : Ura M} (𝓛 : Logic 𝓤) (at_mem : Memory → SP
   Post = (walk_of 𝓛 owner.ended stayed (owner.clauses 𝓛 at_mem run)).post ((tt, tt, tt, a, vals), tt)
 
   abbrev Answered : Listed → List ℤ → List Run → Type 0
-  Answered r ws ws' = (r ≡ bothListed cornerLimit d (length ns) (length rs)) × ((ws ≡ numbersTo cornerLimit d ns (length rs)) × (ws' ≡ recordsTo cornerLimit d (length ns) rs))
+  Answered r ws ws' = (r ≡ both_listed corner_limit d (length ns) (length rs)) × ((ws ≡ numbers_to corner_limit d ns (length rs)) × (ws' ≡ records_to corner_limit d (length ns) rs))
 
   promised : (r : Listed) (ws : List ℤ) (ws' : List Run) → Answered r ws ws' → made r ws ws' ≡ lists_of d ns rs
   unfolding lists_of
   promised r ws ws' e = λ i. record { listed = e.0 i; numbers = e.1.0 i; records = e.1.1 i }
 
-  exits : (r : Listed) (ws : List ℤ) (ws' : List Run) → Is X.the_row (made r ws ws') (listsVal r ws ws' ∷ []) → Answered r ws ws' → ent 𝓤 (⋆ 𝓛 []) (Post (listsVal r ws ws'))
+  exits : (r : Listed) (ws : List ℤ) (ws' : List Run) → Is X.the_row (made r ws ws') (lists_val r ws ws' ∷ []) → Answered r ws ws' → ent 𝓤 (⋆ 𝓛 []) (Post (lists_val r ws ws'))
   exits r ws ws' is e =
-      qed 𝓛 [] ∵ suffices ! _ (ends_at 𝓛 owner.ended stayed (owner.clauses 𝓛 at_mem run) ((tt, tt, tt, a, vals), tt) (listsVal r ws ws') (made r ws ws') (tt, (tt, (tt, tt))) (tt, (tt, (tt, tt)))) $
+      qed 𝓛 [] ∵ suffices ! _ (ends_at 𝓛 owner.ended stayed (owner.clauses 𝓛 at_mem run) ((tt, tt, tt, a, vals), tt) (lists_val r ws ws') (made r ws ws') (tt, (tt, (tt, tt))) (tt, (tt, (tt, tt)))) $
       says ! (promised r ws ws' e) $ owned ! X.the_row (Is X.the_row) (LL.makes X.the_type X'.the_plain 𝓛) (made r ws ws') _ is $
       nothing ! $ nothing ! $ fjoin ! $ nothing ! $ fjoin ! $ nothing ! $ fjoin ! $ nothing ! $ done !
 

@@ -6,15 +6,15 @@ use lib.IntN.{ℤ}
 use mir.Syntax.{w64}
 use mir.Val.{SFits, of_z, to_z}
 use mir.Facts.{to_z-of_z}
-use Rattle.whole.specs.Number.{isWithin}
+use Rattle.whole.specs.Number.{is_within}
 use Rattle.whole.proofs.Laws.{true-within}
 use Rattle.whole.proofs.Machine.{Hold, hold, literal, hold-sub, fits_sub, fits-add}
-use Rattle.shapes.specs.Limits.{cornerLimit}
+use Rattle.shapes.specs.Limits.{corner_limit}
 use Rattle.test_replay.proofs.segments.pixels.Statement.{statement}
 use Rattle.test_replay.proofs.segments.pixels.Tie as tie
 
-held : {z : ℤ} {t : Bool} → SFits w64 z → t ≡ isWithin cornerLimit (to_z w64 (of_z w64 z)) → t ≡ true → Hold (of_z w64 z) z cornerLimit
-held {z} fits is passed = hold (true-within cornerLimit z (sym (is ∙ ap (isWithin cornerLimit) (to_z-of_z fits)) ∙ passed)) tt
+held : {z : ℤ} {t : Bool} → SFits w64 z → t ≡ is_within corner_limit (to_z w64 (of_z w64 z)) → t ≡ true → Hold (of_z w64 z) z corner_limit
+held {z} fits is passed = hold (true-within corner_limit z (sym (is ∙ ap (is_within corner_limit) (to_z-of_z fits)) ∙ passed)) tt
 
 within-requires : tie.Need-within-requires
 within-requires c κs = search rules
@@ -22,10 +22,10 @@ within-requires c κs = search rules
 within-requires-2 : tie.Need-within-requires-2
 within-requires-2 c κs = search rules
 
-first-held : (c : tie.Then2) → Hold (of_z w64 c.before.before.before.before.args.first) c.before.before.before.before.args.first cornerLimit
+first-held : (c : tie.Then2) → Hold (of_z w64 c.before.before.before.before.args.first) c.before.before.before.before.args.first corner_limit
 first-held c = let t = c.before.before in held t.before.before.ranges.first t.before.within.ensures t.if1.true
 
-last-held : (c : tie.Then2) → Hold (of_z w64 c.before.before.before.before.args.last) c.before.before.before.before.args.last cornerLimit
+last-held : (c : tie.Then2) → Hold (of_z w64 c.before.before.before.before.args.last) c.before.before.before.before.args.last corner_limit
 last-held c = held c.before.before.before.before.ranges.last c.before.within2.ensures c.if2.true
 
 sub-result : tie.Need-overflow-sub-result

@@ -4,17 +4,17 @@ use mathlib.Core.Bool.{false}
 use Prim.Native.Nat.{◌+◌}
 use native.Mathlib.Omega.{arith}
 use lib.ListN.{length}
-use Rattle.shapes.specs.Limits.{thickLimit}
-use Rattle.parallels.specs.Parallels.{Begun, isDone, spare, parallels}
+use Rattle.shapes.specs.Limits.{thick_limit}
+use Rattle.parallels.specs.Parallels.{Begun, is_done, spare, parallels}
 use Rattle.parallels.proofs.Room.{begun-next, begun-less}
-use Rattle.thick_points.specs.Listing.{toldAll}
+use Rattle.thick_points.specs.Listing.{told_all}
 use Rattle.thick_points.proofs.Lists.{told-few, told-length, told-end}
 use Rattle.thick_points.proofs.inner.count.Statement.{statement}
 use Rattle.thick_points.proofs.inner.count.Tie as tie
 
 abbrev invariant-loop : tie.invariant-loop
 invariant-loop telling n plan at₀ count₀ at count =
-    Begun thickLimit plan at × (count + length (toldAll telling n plan.parallel (parallels plan at)) ≡ length (toldAll telling n plan.parallel (parallels plan at₀)))
+    Begun thick_limit plan at × (count + length (told_all telling n plan.parallel (parallels plan at)) ≡ length (told_all telling n plan.parallel (parallels plan at₀)))
 
 abbrev decreases-loop : tie.decreases-loop
 decreases-loop telling n plan at₀ count₀ at count = spare plan at
@@ -32,7 +32,7 @@ size-requires : tie.Need-size-requires invariant-loop decreases-loop
 size-requires c κs = c.before.before.before.before.before.requires.0
 
 -- where the loop goes on, a parallel follows
-follows : (c : tie.Else1 invariant-loop decreases-loop) → isDone c.before.before.before.args.plan c.before.before.loop.at ≡ false
+follows : (c : tie.Else1 invariant-loop decreases-loop) → is_done c.before.before.before.args.plan c.before.before.loop.at ≡ false
 follows c = sym c.before.is-done.ensures ∙ c.if1.false
 
 -- the numbers of this parallel and of those after it
@@ -40,7 +40,7 @@ more : (c : tie.After-size invariant-loop decreases-loop) →
     let y = c.before.before in
     let l = y.before.before.before in
     let a = l.before.args in
-    length (toldAll a.telling a.n a.plan.parallel (parallels a.plan l.loop.at)) ≡ c.size.result + length (toldAll a.telling a.n a.plan.parallel (parallels a.plan y.next.result.state))
+    length (told_all a.telling a.n a.plan.parallel (parallels a.plan l.loop.at)) ≡ c.size.result + length (told_all a.telling a.n a.plan.parallel (parallels a.plan y.next.result.state))
 more c =
     let y = c.before.before in
     let l = y.before.before.before in

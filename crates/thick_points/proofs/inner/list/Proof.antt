@@ -3,28 +3,28 @@ use mathlib.Core.Path.{◌≡◌, sym, ◌∙◌, ap}
 use borrow.Author.Rules.{rules}
 use lib.ListN.{length}
 use mir.Facts.{to_z-of_z}
-use Rattle.shapes.specs.Limits.{lineLimit, thickLimit}
-use Rattle.shapes.specs.Shape.{LineNear, isLineNear}
-use Rattle.shapes.specs.Strokes.{Thin, strokeRefusal}
+use Rattle.shapes.specs.Limits.{line_limit, thick_limit}
+use Rattle.shapes.specs.Shape.{LineNear, is_line_near}
+use Rattle.shapes.specs.Strokes.{Thin, stroke_refusal}
 use Rattle.shapes.proofs.Laws.{line-near-iff, line-near-more}
 use Rattle.shapes.proofs.Widths.{thin-held, stroke-none}
-use Rattle.parallels.specs.Parallels.{plan_of, parallels, parallelsOf, Sound, Begun}
+use Rattle.parallels.specs.Parallels.{plan_of, parallels, parallels_of, Sound, Begun}
 use Rattle.parallels.proofs.Plans.{sound-plan}
 use Rattle.parallels.proofs.Room.{thin-thick, begun-start}
-use Rattle.thick_points.specs.Listing.{toldAll, toldNumbers}
+use Rattle.thick_points.specs.Listing.{told_all, told_numbers}
 use Rattle.thick_points.proofs.Answers.{refused-first, refused-short, listed-all}
 use Rattle.thick_points.proofs.Lists.{length-few}
 use Rattle.thick_points.proofs.inner.list.Statement.{statement}
 use Rattle.thick_points.proofs.inner.list.Tie as tie
 
 -- the refusal of the line and its width
-number : (c : tie.After-stroke-refusal) → let a = c.before.before.args in c.stroke-refusal.result ≡ strokeRefusal a.width (isLineNear a.limit a.line)
+number : (c : tie.After-stroke-refusal) → let a = c.before.before.args in c.stroke-refusal.result ≡ stroke_refusal a.width (is_line_near a.limit a.line)
 number c = rw (to_z-of_z c.before.before.ranges.width, c.before.is-line-near.ensures) at c.stroke-refusal.ensures
 
 returns : tie.Need-returns
 returns c =
     let a = c.before.before.before.args in
-    let ns = toldNumbers a.telling a.line a.width a.offset in
+    let ns = told_numbers a.telling a.line a.width a.offset in
     refused-first a.limit a.line a.width ns a.out.now (length ns) (number c.before) c.if1.true
 
 -- where it is 0, all is within its limits
@@ -33,7 +33,7 @@ accepted c =
     let a = c.before.before.before.args in
     (stroke-none a.width (line-near-iff a.limit a.line)).0 (sym (number c.before) ∙ c.if1.false)
 
-near : (c : tie.Else1) → LineNear lineLimit c.before.before.before.args.line
+near : (c : tie.Else1) → LineNear line_limit c.before.before.before.args.line
 near c = line-near-more (accepted c).1 c.before.before.before.requires
 
 plan-of-requires : tie.Need-plan-of-requires
@@ -42,16 +42,16 @@ plan-of-requires c κs = (near c, rw (thin-held (accepted c).0).is (thin-thick (
 planned : (c : tie.After-plan-of) → let a = c.before.before.before.before.args in c.plan-of.result ≡ plan_of a.line a.width a.offset
 planned c = rw (to_z-of_z c.before.before.before.before.ranges.width) at c.plan-of.ensures
 
-sound : (c : tie.After-plan-of) → Sound thickLimit c.plan-of.result
+sound : (c : tie.After-plan-of) → Sound thick_limit c.plan-of.result
 sound c =
     let a = c.before.before.before.before.args in
     rw (planned c) (sound-plan a.line a.width a.offset (near c.before) (thin-thick (accepted c.before).0).bound)
 
 start-requires : tie.Need-start-requires
-start-requires c κs = (sound c, (near c.before).start-near)
+start-requires c κs = (sound c, (near c.before).start_near)
 
-begun : (c : tie.After-start) → Begun thickLimit c.before.plan-of.result c.start.result
-begun c = rw c.start.ensures (begun-start (sound c.before) (near c.before.before).start-near)
+begun : (c : tie.After-start) → Begun thick_limit c.before.plan-of.result c.start.result
+begun c = rw c.start.ensures (begun-start (sound c.before) (near c.before.before).start_near)
 
 major-length-requires : tie.Need-major-length-requires
 major-length-requires c κs = near c.before.before
@@ -63,18 +63,18 @@ count-requires c κs = (rw c.major-length.ensures (length-few (near c.before.bef
 all : (c : tie.After-major-length) →
     let p = c.before.before in
     let a = p.before.before.before.before.args in
-    toldAll a.telling c.major-length.result p.plan-of.result.parallel (parallels p.plan-of.result c.before.start.result) ≡ toldNumbers a.telling a.line a.width a.offset
-unfolding toldNumbers parallelsOf
+    told_all a.telling c.major-length.result p.plan-of.result.parallel (parallels p.plan-of.result c.before.start.result) ≡ told_numbers a.telling a.line a.width a.offset
+unfolding told_numbers parallels_of
 all c = rw (c.major-length.ensures, c.before.start.ensures, planned c.before.before)
 
-counted : (c : tie.After-count) → let a = c.before.before.before.before.before.before.before.args in c.count.result ≡ length (toldNumbers a.telling a.line a.width a.offset)
+counted : (c : tie.After-count) → let a = c.before.before.before.before.before.before.before.args in c.count.result ≡ length (told_numbers a.telling a.line a.width a.offset)
 counted c = c.count.ensures ∙ ap length (all c.before)
 
 returns-2 : tie.Need-returns-2
 returns-2 c =
     let e = c.before.before.before.before.before in
     let a = e.before.before.before.args in
-    let ns = toldNumbers a.telling a.line a.width a.offset in
+    let ns = told_numbers a.telling a.line a.width a.offset in
     refused-short a.limit a.line a.width ns a.out.now (length ns) (accepted e).0 (accepted e).1 (rw (counted c.before) at c.if2.true)
 
 put-all-requires : tie.Need-put-all-requires
@@ -88,7 +88,7 @@ returns-3 c =
     let m = e.before.before in
     let i = m.before.before.before in
     let a = i.before.before.before.args in
-    let ns = toldNumbers a.telling a.line a.width a.offset in
+    let ns = told_numbers a.telling a.line a.width a.offset in
     let n = counted e.before in
     rw (c.before.put_all_lem.ensures, all m, n) (listed-all a.limit a.line a.width ns a.out.now (length ns) (accepted i).0 (accepted i).1 (rw n at e.if2.false))
 

@@ -9,13 +9,13 @@ use mir.Val.{of_z}
 use Rattle.whole.proofs.Machine.{Hold, hold-as, literal, fits-add, hold-add}
 use Rattle.whole.proofs.Steps.{one_more}
 use Rattle.shapes.specs.declared.Line.{Line}
-use Rattle.shapes.specs.Limits.{lineLimit}
+use Rattle.shapes.specs.Limits.{line_limit}
 use Rattle.shapes.specs.Shape.{LineNear, delta}
 use Rattle.shapes.proofs.Laws.{near-delta}
 use Rattle.bresenham.proofs.Laws.{threshold-natural}
-use Rattle.bresenham.specs.Walk.{parametersOf}
-use Rattle.parallels.specs.Parallels.{deltaLimit}
-use Rattle.bresenham.specs.Points.{majorLength}
+use Rattle.bresenham.specs.Walk.{parameters_of}
+use Rattle.parallels.specs.Parallels.{delta_limit}
+use Rattle.bresenham.specs.Points.{major_length}
 use Rattle.thick_points.proofs.inner.major_length.Statement.{statement}
 use Rattle.thick_points.proofs.inner.major_length.Tie as tie
 
@@ -23,11 +23,11 @@ parameters-requires : tie.Need-parameters-requires
 parameters-requires c κs = search rules
 
 -- the threshold is a natural number
-natural : (l : Line) → LineNear lineLimit l → (pos 0 ≤ℤ (parametersOf l).threshold) × (nat_abs (parametersOf l).threshold ≤ deltaLimit)
-unfolding parametersOf
+natural : (l : Line) → LineNear line_limit l → (pos 0 ≤ℤ (parameters_of l).threshold) × (nat_abs (parameters_of l).threshold ≤ delta_limit)
+unfolding parameters_of
 natural l h = threshold-natural (delta l) (near-delta h)
 
-larger : (c : tie.After-parameters) → Hold (of_z w64 c.parameters.result.threshold) (parametersOf c.before.args.line).threshold deltaLimit
+larger : (c : tie.After-parameters) → Hold (of_z w64 c.parameters.result.threshold) (parameters_of c.before.args.line).threshold delta_limit
 larger c = hold-as (ap (λ p. p.threshold) c.parameters.ensures) (record { bound = (natural c.before.args.line c.before.requires).1 }) tt
 
 add-result : tie.Need-overflow-add-result
@@ -40,7 +40,7 @@ cast-result c =
     rw (one.is, one_more n.0) (tt, record { fits = omega (arith, n.1) })
 
 returns : tie.Need-returns
-unfolding majorLength
+unfolding major_length
 returns c =
     let n = natural c.before.before.before.args.line c.before.before.before.requires in
     ap nat_abs ((hold-add (larger c.before.before) (literal 1 tt) tt).is ∙ one_more n.0)

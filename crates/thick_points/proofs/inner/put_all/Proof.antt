@@ -6,10 +6,10 @@ use Prim.Native.Nat.{◌+◌, ◌≤◌}
 use native.Mathlib.Omega.{arith}
 use lib.ListN.{length}
 use lib.Seq.{sets}
-use Rattle.shapes.specs.Limits.{thickLimit}
-use Rattle.parallels.specs.Parallels.{Begun, isDone, spare, parallels}
+use Rattle.shapes.specs.Limits.{thick_limit}
+use Rattle.parallels.specs.Parallels.{Begun, is_done, spare, parallels}
 use Rattle.parallels.proofs.Room.{begun-next, begun-less}
-use Rattle.thick_points.specs.Listing.{size_of, toldAll}
+use Rattle.thick_points.specs.Listing.{size_of, told_all}
 use Rattle.thick_points.proofs.Lists.{told-length, told-stored, told-end, walk-yield}
 use Rattle.thick_points.proofs.inner.put_all.Statement.{statement}
 use Rattle.thick_points.proofs.inner.put_all.Tie as tie
@@ -17,8 +17,8 @@ use Rattle.thick_points.proofs.inner.put_all.Tie as tie
 abbrev invariant-loop : tie.invariant-loop
 invariant-loop out₀ telling n plan from₀ at₀ out from at =
     (length out ≡ length out₀)
-    × ((at + length (toldAll telling n plan.parallel (parallels plan from)) ≤ length out₀)
-    × (Begun thickLimit plan from × (sets out at (toldAll telling n plan.parallel (parallels plan from)) ≡ sets out₀ 0 (toldAll telling n plan.parallel (parallels plan from₀)))))
+    × ((at + length (told_all telling n plan.parallel (parallels plan from)) ≤ length out₀)
+    × (Begun thick_limit plan from × (sets out at (told_all telling n plan.parallel (parallels plan from)) ≡ sets out₀ 0 (told_all telling n plan.parallel (parallels plan from₀)))))
 
 abbrev decreases-loop : tie.decreases-loop
 decreases-loop out₀ telling n plan from₀ at₀ out from at = spare plan from
@@ -33,14 +33,14 @@ next-requires : tie.Need-next-requires invariant-loop decreases-loop
 next-requires c κs = (c.before.before.before.requires.1.0, c.before.before.loop.invariant.1.1.0)
 
 -- where the loop goes on, a parallel follows
-follows : (c : tie.Else1 invariant-loop decreases-loop) → isDone c.before.before.before.args.plan c.before.before.loop.from ≡ false
+follows : (c : tie.Else1 invariant-loop decreases-loop) → is_done c.before.before.before.args.plan c.before.before.loop.from ≡ false
 follows c = sym c.before.is-done.ensures ∙ c.if1.false
 
 -- the numbers of this parallel and of those after it
 more : (c : tie.After-next invariant-loop decreases-loop) →
     let l = c.before.before.before in
     let a = l.before.args in
-    length (toldAll a.telling a.n a.plan.parallel (parallels a.plan l.loop.from)) ≡ size_of a.telling a.n c.next.result.parallel.extra + length (toldAll a.telling a.n a.plan.parallel (parallels a.plan c.next.result.state))
+    length (told_all a.telling a.n a.plan.parallel (parallels a.plan l.loop.from)) ≡ size_of a.telling a.n c.next.result.parallel.extra + length (told_all a.telling a.n a.plan.parallel (parallels a.plan c.next.result.state))
 more c =
     let l = c.before.before.before in
     let s = l.before in
@@ -51,7 +51,7 @@ put-requires c κs =
     let y = c.before.before in
     let l = y.before.before.before in
     let q = l.before.requires in
-    (q.1.0.along-fair, (q.0.0, (rw y.next.ensures (walk-yield l.before.args.n q.1.0 l.loop.invariant.1.1.0 (follows y.before) q.0.1), omega (arith, l.loop.invariant, more y))))
+    (q.1.0.along_fair, (q.0.0, (rw y.next.ensures (walk-yield l.before.args.n q.1.0 l.loop.invariant.1.1.0 (follows y.before) q.0.1), omega (arith, l.loop.invariant, more y))))
 
 size-requires : tie.Need-size-requires invariant-loop decreases-loop
 size-requires c κs = c.before.before.before.before.before.before.before.before.requires.0

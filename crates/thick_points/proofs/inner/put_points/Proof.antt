@@ -8,9 +8,9 @@ use lib.ListN.{length}
 use lib.Seq.{sets}
 use mir.Syntax.{w64}
 use mir.Facts.{to_z-of_z}
-use Rattle.bresenham.specs.Points.{pointsFrom}
+use Rattle.bresenham.specs.Points.{points_from}
 use Rattle.parallels.proofs.Room.{sized}
-use Rattle.thick_points.specs.Listing.{pointNumbers, Walk}
+use Rattle.thick_points.specs.Listing.{point_numbers, Walk}
 use Rattle.thick_points.proofs.Lists.{point-turn, point-end, walk-placed, walk-next}
 use Rattle.thick_points.proofs.inner.put_points.Statement.{statement}
 use Rattle.thick_points.proofs.inner.put_points.Tie as tie
@@ -19,7 +19,7 @@ abbrev invariant-loop : tie.invariant-loop
 invariant-loop out₀ at along n from₀ place₀ left₀ out from place left =
     (length out ≡ length out₀)
     × ((place + 2 * left ≤ length out₀)
-    × (Walk left along from × (sets out place (pointNumbers (pointsFrom left along from)) ≡ sets out₀ at (pointNumbers (pointsFrom n along from₀)))))
+    × (Walk left along from × (sets out place (point_numbers (points_from left along from)) ≡ sets out₀ at (point_numbers (points_from n along from₀)))))
 
 abbrev decreases-loop : tie.decreases-loop
 decreases-loop out₀ at along n from₀ place₀ left₀ out from place left = left

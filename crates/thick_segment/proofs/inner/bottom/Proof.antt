@@ -1,12 +1,12 @@
 use borrow.Author.Rules.{rules}
 use mir.Syntax.{w64}
 use mir.Facts.{to_z-of_z}
-use Rattle.thick_segment.specs.Segments.{bottomOf}
+use Rattle.thick_segment.specs.Segments.{bottom_of}
 use Rattle.thick_segment.proofs.inner.bottom.Statement.{statement}
 use Rattle.thick_segment.proofs.inner.bottom.Tie as tie
 
 returns : tie.Need-returns
-unfolding bottomOf
+unfolding bottom_of
 returns c =
     cc (to_z-of_z {w = w64} {z = c.before.before.lower.result} (search rules), to_z-of_z {w = w64} {z = c.before.lower2.result} (search rules), to_z-of_z {w = w64} {z = c.greater.result} (search rules))
 

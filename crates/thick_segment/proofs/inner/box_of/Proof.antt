@@ -1,10 +1,10 @@
-use Rattle.thick_segment.specs.Segments.{boxOf}
+use Rattle.thick_segment.specs.Segments.{box_of}
 use borrow.Author.Rules.{rules}
 use Rattle.thick_segment.proofs.inner.box_of.Statement.{statement}
 use Rattle.thick_segment.proofs.inner.box_of.Tie as tie
 
 returns : tie.Need-returns
-unfolding boxOf
+unfolding box_of
 returns c = simp (c.before.least.ensures, c.most.ensures)
 
 pub box-of-spec : {M : Type 1} → statement M

@@ -1,10 +1,10 @@
-use Rattle.thick_segment.specs.Segments.{edgesOf}
+use Rattle.thick_segment.specs.Segments.{edges_of}
 use borrow.Author.Rules.{rules}
 use Rattle.thick_segment.proofs.inner.edges.Statement.{statement}
 use Rattle.thick_segment.proofs.inner.edges.Tie as tie
 
 returns : tie.Need-returns
-unfolding edgesOf
+unfolding edges_of
 returns c = simp (c.before.Line-of.ensures, c.line-of2.ensures)
 
 pub edges_spec : {M : Type 1} → statement M

@@ -1,10 +1,10 @@
 use borrow.Author.Rules.{rules}
-use Rattle.thick_segment.specs.Segments.{isSegmentNear}
+use Rattle.thick_segment.specs.Segments.{is_segment_near}
 use Rattle.thick_segment.proofs.inner.is_segment_near.Statement.{statement}
 use Rattle.thick_segment.proofs.inner.is_segment_near.Tie as tie
 
 returns : tie.Need-returns
-unfolding isSegmentNear
+unfolding is_segment_near
 returns c = cc
 
 pub is-segment-near-spec : {M : Type 1} → statement M

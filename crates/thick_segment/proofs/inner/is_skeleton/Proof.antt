@@ -1,10 +1,10 @@
-use Rattle.thick_segment.specs.Segments.{isSkeleton}
+use Rattle.thick_segment.specs.Segments.{is_skeleton}
 use borrow.Author.Rules.{rules}
 use Rattle.thick_segment.proofs.inner.is_skeleton.Statement.{statement}
 use Rattle.thick_segment.proofs.inner.is_skeleton.Tie as tie
 
 returns : tie.Need-returns
-unfolding isSkeleton
+unfolding is_skeleton
 returns c = c.same_point.ensures
 
 pub is-skeleton-spec : {M : Type 1} → statement M

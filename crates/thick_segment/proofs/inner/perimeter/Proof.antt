@@ -4,8 +4,8 @@ use Prim.Native.Nat.{◌+◌, ◌≤◌}
 use native.Mathlib.Omega.{arith}
 use borrow.Author.Rules.{rules}
 use lib.ListN.{set}
-use Rattle.line_join.specs.Caps.{startCapsOf, endCapsOf}
-use Rattle.thick_segment.specs.Segments.{coordinates, capLines, drawn, rows_of, placed, perimeterOf}
+use Rattle.line_join.specs.Caps.{start_caps_of, end_caps_of}
+use Rattle.thick_segment.specs.Segments.{coordinates, cap_lines, drawn, rows_of, placed, perimeter_of}
 use Rattle.thick_segment.proofs.Drawn.{caps-most}
 use Rattle.thick_segment.proofs.Placed.{placed-all}
 use Rattle.thick_segment.proofs.inner.perimeter.Statement.{statement}
@@ -18,7 +18,7 @@ last-most : (c : tie.After-cap-count2) → c.cap-count2.result ≤ 2
 last-most c = omega (arith, caps-most c.before.before.before.before.end-caps.result, c.cap-count2.ensures)
 
 returns : tie.Need-returns
-unfolding perimeterOf drawn rows_of
+unfolding perimeter_of drawn rows_of
 returns c =
     let t = c.before in
     let d = t.before.before.before.before in
@@ -40,7 +40,7 @@ with-line-requires-3 : tie.Need-with-line-requires-3
 with-line-requires-3 c κs = omega (arith, first-most c.before.before.before.before, last-most c.before)
 
 returns-2 : tie.Need-returns-2
-unfolding perimeterOf drawn rows_of
+unfolding perimeter_of drawn rows_of
 returns-2 c =
     let counted = c.before.before in
     let capped = counted.before in
@@ -54,13 +54,13 @@ returns-2 c =
     let j = counted.cap-count2.result in
     let start = caps.before.start-caps.result in
     let end = caps.end-caps.result in
-    let lines = capped.with-caps2.ensures ∙ ap (λ rows. placed rows i (capLines end)) capped.before.with-caps.ensures in
+    let lines = capped.with-caps2.ensures ∙ ap (λ rows. placed rows i (cap_lines end)) capped.before.with-caps.ensures in
     c.with-line3.ensures
     ∙ ap (λ rows. set rows (i + j + 1) (coordinates e.left)) (c.before.with-line2.ensures ∙ ap (λ rows. set rows (i + j) (coordinates e.right)) lines)
-    ∙ placed-all 6 (capLines start) (capLines end) e.right e.left first.cap-count.ensures counted.cap-count2.ensures (omega (arith, caps-most start, caps-most end))
-    ∙ ap (λ k. rows_of 6 (capLines k ++ (capLines end ++ (e.right ∷ e.left ∷ [])))) caps.before.start-caps.ensures
-    ∙ ap (λ k. rows_of 6 (capLines (startCapsOf s.start) ++ (capLines k ++ (e.right ∷ e.left ∷ [])))) caps.end-caps.ensures
-    ∙ ap (λ k. rows_of 6 (capLines (startCapsOf s.start) ++ (capLines (endCapsOf s.end) ++ (k.right ∷ k.left ∷ [])))) d.edges.ensures
+    ∙ placed-all 6 (cap_lines start) (cap_lines end) e.right e.left first.cap-count.ensures counted.cap-count2.ensures (omega (arith, caps-most start, caps-most end))
+    ∙ ap (λ k. rows_of 6 (cap_lines k ++ (cap_lines end ++ (e.right ∷ e.left ∷ [])))) caps.before.start-caps.ensures
+    ∙ ap (λ k. rows_of 6 (cap_lines (start_caps_of s.start) ++ (cap_lines k ++ (e.right ∷ e.left ∷ [])))) caps.end-caps.ensures
+    ∙ ap (λ k. rows_of 6 (cap_lines (start_caps_of s.start) ++ (cap_lines (end_caps_of s.end) ++ (k.right ∷ k.left ∷ [])))) d.edges.ensures
     ∙ sym (simp (sym t.before.is-skeleton.ensures ∙ t.if1.false))
 
 pub perimeter-spec : {M : Type 1} → statement M

@@ -1,7 +1,7 @@
 use mathlib.Core.Path.{sym, ap, ◌∙◌}
 use native.Mathlib.Omega.{arith}
 use lib.ListN.{length, length-append}
-use Rattle.thick_segment.specs.Segments.{capLines, drawn, count_of}
+use Rattle.thick_segment.specs.Segments.{cap_lines, drawn, count_of}
 use Rattle.thick_segment.proofs.Drawn.{caps-most}
 use borrow.Author.Rules.{rules}
 use Rattle.thick_segment.proofs.inner.perimeter_count.Statement.{statement}
@@ -22,8 +22,8 @@ unfolding count_of drawn
 returns-2 c =
     let m = c.before.before in
     let e = m.before.before in
-    let first = m.cap-count.ensures ∙ ap (λ k. length (capLines k)) m.before.start-caps.ensures in
-    let last = c.cap-count2.ensures ∙ ap (λ k. length (capLines k)) c.before.end-caps.ensures in
+    let first = m.cap-count.ensures ∙ ap (λ k. length (cap_lines k)) m.before.start-caps.ensures in
+    let last = c.cap-count2.ensures ∙ ap (λ k. length (cap_lines k)) c.before.end-caps.ensures in
     simp (sym e.before.is-skeleton.ensures ∙ e.if1.false, length-append) (omega (arith, first, last))
 
 pub perimeter-count-spec : {M : Type 1} → statement M

@@ -6,19 +6,19 @@ use borrow.Author.Rules.{rules}
 use mathlib.Core.List.{[]}
 use lib.ListN.{length, take, get_or}
 use Rattle.scanline.specs.Meeting.{met}
-use Rattle.thick_segment.specs.Segments.{line_at, metRows}
+use Rattle.thick_segment.specs.Segments.{line_at, met_rows}
 use Rattle.thick_segment.proofs.Scanned.{met-more}
 use Rattle.thick_segment.proofs.inner.scan.Statement.{statement}
 use Rattle.thick_segment.proofs.inner.scan.Tie as tie
 
 abbrev invariant-loop : tie.invariant-loop
-invariant-loop n lines met₀ i₀ met i = (i ≤ n) × ((n ≤ 6) × ((length lines ≡ 6) × (met ≡ metRows met₀ (take i lines))))
+invariant-loop n lines met₀ i₀ met i = (i ≤ n) × ((n ≤ 6) × ((length lines ≡ 6) × (met ≡ met_rows met₀ (take i lines))))
 
 abbrev decreases-loop : tie.decreases-loop
 decreases-loop n lines met₀ i₀ met i = n - i
 
 loop-holds : tie.Need-loop-init invariant-loop decreases-loop
-unfolding metRows
+unfolding met_rows
 loop-holds c = (search rules, (search rules, (search rules, refl)))
 
 meet-requires : tie.Need-meet-requires invariant-loop decreases-loop

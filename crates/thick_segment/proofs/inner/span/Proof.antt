@@ -6,8 +6,8 @@ use mir.Val.{to_z, of_z}
 use mir.Facts.{to_z-of_z}
 use Rattle.whole.specs.Number.{lesser, greater}
 use Rattle.whole.proofs.Tests.{lt_iff}
-use Rattle.scanline.specs.Spans.{newSpan}
-use Rattle.thick_segment.specs.Segments.{top_of, bottomOf, drawn, perimeterOf, count_of, spanOn}
+use Rattle.scanline.specs.Spans.{new_span}
+use Rattle.thick_segment.specs.Segments.{top_of, bottom_of, drawn, perimeter_of, count_of, span_on}
 use Rattle.thick_segment.proofs.Scanned.{met-rows, rows-near}
 use Rattle.thick_segment.proofs.Drawn.{drawn-most, drawn-near, span-beside}
 use Rattle.thick_segment.proofs.inner.span.Statement.{statement}
@@ -18,7 +18,7 @@ first : (c : tie.After-lesser) → let s = c.before.before.before.args.segment i
 first c =
     cc (to_z-of_z {w = w64} {z = c.lesser.result} (search rules), to_z-of_z {w = w64} {z = c.before.before.top.result} (search rules), to_z-of_z {w = w64} {z = c.before.top2.result} (search rules))
 
-last : (c : tie.After-greater) → let s = c.before.before.before.before.before.before.before.args.segment in to_z w64 (of_z w64 c.greater.result) ≡ greater (bottomOf s.start) (bottomOf s.end)
+last : (c : tie.After-greater) → let s = c.before.before.before.before.before.before.before.args.segment in to_z w64 (of_z w64 c.greater.result) ≡ greater (bottom_of s.start) (bottom_of s.end)
 last c =
     cc (to_z-of_z {w = w64} {z = c.greater.result} (search rules), to_z-of_z {w = w64} {z = c.before.before.bottom.result} (search rules), to_z-of_z {w = w64} {z = c.before.bottom2.result} (search rules))
 
@@ -38,18 +38,18 @@ abbrev begin : tie.After-perimeter-count → tie.Start
 begin c = c.before.before.before.before.before.before.before.before.before.before
 
 scan-requires : tie.Need-scan-requires
-unfolding perimeterOf count_of
+unfolding perimeter_of count_of
 scan-requires c κs =
     let b = begin c in
     let s = b.args.segment in
     (rw c.perimeter-count.ensures (drawn-most s), rw c.before.perimeter.ensures (rows-near _ 6 (drawn s) (drawn-near s b.pre)))
 
 returns-3 : tie.Need-returns-3
-unfolding spanOn perimeterOf count_of
+unfolding span_on perimeter_of count_of
 returns-3 c =
     let b = begin c.before in
     let s = b.args.segment in
-    cc (met-rows 6 (newSpan b.args.row) (drawn s) (drawn-most s), to_z-of_z b.fits.row)
+    cc (met-rows 6 (new_span b.args.row) (drawn s) (drawn-most s), to_z-of_z b.fits.row)
 
 pub span-spec : {M : Type 1} → statement M
 span-spec =

@@ -9,7 +9,7 @@ use lib.IntN.{pos, nat_abs, ◌*ℤ◌}
 use lib.Signed.{rem_z}
 use mir.Syntax.{w64}
 use mir.Val.{to_z, of_z}
-use Rattle.whole.specs.Divided.{divisionOf}
+use Rattle.whole.specs.Divided.{division_of}
 use Rattle.whole.proofs.Bounds.{abs-rem}
 use Rattle.whole.proofs.Machine.{Hold, hold, hold-as, literal, fits_div, fits-mul, hold-rem, hold-mul, eq-hold, ne-back}
 use Rattle.whole.proofs.inner.division.Statement.{statement}
@@ -45,14 +45,14 @@ some : (c : tie.Else1) → eqb (left c.before.before) 0 ≡ false
 some c = ne_eqb (left c.before.before) 0 (λ e. ne-back {y = pos 0} c.if1.false (rest-is c.before ∙ ap pos e))
 
 returns : tie.Need-returns
-unfolding divisionOf
+unfolding division_of
 returns c = simp (eq-eqb (left c.before.before) 0 (ap nat_abs (eq-hold (rest c.before) (literal 0 tt) c.if1.true)))
 
 mul-if2 : tie.Need-overflow-mul-if2
 mul-if2 c = fits-mul (literal 2 tt) (rest c.before) tt
 
 returns-2 : tie.Need-returns-2
-unfolding divisionOf
+unfolding division_of
 returns-2 c =
     let m = c.before in
     let e = m.before in
@@ -60,7 +60,7 @@ returns-2 c =
     simp (some e, eq-eqb (2 * left e.before.before) _ (ap nat_abs half))
 
 returns-3 : tie.Need-returns-3
-unfolding divisionOf
+unfolding division_of
 returns-3 c =
     let m = c.before in
     let e = m.before in

@@ -6,7 +6,7 @@ use borrow.Author.Rules.{rules}
 use borrow.Author.Tests.{le-leb, lt-leb}
 use lib.IntN.{pos, nat_abs}
 use mir.Facts.{to_z-of_z}
-use Rattle.whole.specs.Number.{isWithin}
+use Rattle.whole.specs.Number.{is_within}
 use Rattle.whole.proofs.Linear.{linear, opp, abs-parts, abs-le}
 use Rattle.whole.proofs.Machine.{Hold, hold, fits_neg, hold-neg}
 use Rattle.whole.proofs.inner.within.Statement.{statement}
@@ -17,7 +17,7 @@ most : (c : tie.Start) → Hold c.args.limit (pos c.args.limit) (2 ^ 32)
 most c = hold {z = pos c.args.limit} (record { bound = omega (arith, c.ranges.limit) }) tt
 
 returns : tie.Need-returns
-unfolding isWithin
+unfolding is_within
 returns c =
     let x = c.before.args.x in
     let above = simp (to_z-of_z c.before.ranges.x, (most c.before).is) at c.if1.true in
@@ -27,7 +27,7 @@ sub-if2 : tie.Need-overflow-sub-if2
 sub-if2 c = fits_neg (most c.before) tt
 
 returns-2 : tie.Need-returns-2
-unfolding isWithin
+unfolding is_within
 returns-2 c =
     let s = c.before.before in
     let x = s.args.x in
@@ -35,7 +35,7 @@ returns-2 c =
     sym (lt-leb (nat_abs x) s.args.limit (omega (linear, abs-parts x, opp (pos s.args.limit))))
 
 returns-3 : tie.Need-returns-3
-unfolding isWithin
+unfolding is_within
 returns-3 c =
     let s = c.before.before in
     let x = s.args.x in
