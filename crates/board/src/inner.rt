@@ -15,7 +15,7 @@ use shapes::spans::is_empty;
 use whole::inner::{both, greater, lesser, within};
 
 /// An offer half done: the first `count` of `runs` are the answer's, then comes `run`, then the board's runs from `next` on.
-#[derive(Drop)]
+#[derive(Clone, Copy)]
 struct Front {
     runs: [Run; 32],
     count: usize,
@@ -24,7 +24,7 @@ struct Front {
 }
 
 /// A sum on its way round a loop.
-#[derive(Drop)]
+#[derive(Clone, Copy)]
 struct Sum {
     total: i64,
 }

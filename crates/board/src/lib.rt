@@ -1,4 +1,5 @@
 //! A row's runs, which never lie: each lit column is in one run, and no run touches another.
+#![tactic(auto)]
 ghost use Rattle.std.specs.Prelude.{◌≡◌, length};
 ghost use Rattle.shapes.specs.Limits.{corner_limit};
 ghost use Rattle.board.specs.Boards.{begun, offered, cleared, listed, listed_to};
@@ -12,14 +13,14 @@ use shapes::{Span, spans};
 use whole::inner::{both, within};
 
 /// Lit columns of a row, from `start` to `end`, `end` not included.
-#[derive(Drop)]
+#[derive(Clone, Copy)]
 pub struct Run {
     pub start: i64,
     pub end: i64,
 }
 
 /// The runs of one row: the first `count` of `runs`, ascending, with a dark column between neighbours.
-#[derive(Drop)]
+#[derive(Clone, Copy)]
 pub struct Board {
     pub row: i64,
     pub count: usize,
@@ -27,14 +28,14 @@ pub struct Board {
 }
 
 /// A board, or a refusal: `refusal` is 0, or 01's number.
-#[derive(Drop)]
+#[derive(Clone, Copy)]
 pub struct Answer {
     pub refusal: u64,
     pub board: Board,
 }
 
 /// What a listing answers: the number of runs and of their columns, or a refusal and zeros.
-#[derive(Drop)]
+#[derive(Clone, Copy)]
 pub struct Listed {
     pub refusal: u64,
     pub count: usize,

@@ -1,11 +1,12 @@
 //! A walk along a line, a pixel at a time (01's rules W2 to W4): its parameters, its place, and what a step answers.
 //! The steps themselves are in `inner`; there are no entries here.
+#![tactic(auto)]
 pub mod inner; // inner.rt: the steps
 
 use shapes::Point;
 
 /// How a walk goes: with a and b the larger and the smaller absolute delta of its line.
-#[derive(Drop)]
+#[derive(Clone, Copy)]
 pub struct Parameters {
     /// One step along the axis of the larger delta; x where they are equal.
     pub major: Point,
@@ -20,21 +21,21 @@ pub struct Parameters {
 }
 
 /// A place of a walk.
-#[derive(Drop)]
+#[derive(Clone, Copy)]
 pub struct Bresenham {
     pub point: Point,
     pub error: i64,
 }
 
 /// A point that a plain step hands out, and the place after it.
-#[derive(Drop)]
+#[derive(Clone, Copy)]
 pub struct Drawn {
     pub point: Point,
     pub state: Bresenham,
 }
 
 /// A point that a step across a line meets, Extra or Normal, and the place after it.
-#[derive(Drop)]
+#[derive(Clone, Copy)]
 pub struct Met {
     pub point: Point,
     pub extra: bool,
@@ -42,7 +43,7 @@ pub struct Met {
 }
 
 /// An error after it was moved, and whether it carried.
-#[derive(Drop)]
+#[derive(Clone, Copy)]
 pub struct Carried {
     pub error: i64,
     pub carry: bool,

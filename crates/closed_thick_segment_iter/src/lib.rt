@@ -1,5 +1,6 @@
 //! The walk over the segments of a closed route, with one of the three offsets: `closed_thick_segment_iter.rs`. The list of
 //! coordinates is handed to each step.
+#![tactic(auto)]
 ghost use Rattle.std.specs.Prelude.{◌≡◌};
 ghost use Rattle.route_joins.specs.Steps.{step_values};
 ghost use Rattle.shapes.specs.Limits.{point_limit, panel as panel_limits};
@@ -13,7 +14,7 @@ use shapes::limits::panel;
 
 /// A walk: the place of its next segment, the width of the stroke, and where the stroke lies. Any numbers may be handed in: a
 /// place past the last segment is the end, and a width outside 0 to 64 is refused.
-#[derive(Drop)]
+#[derive(Clone, Copy)]
 pub struct Walk {
     pub place: usize,
     pub width: i64,
@@ -21,14 +22,14 @@ pub struct Walk {
 }
 
 /// A walk at its first segment, or a refusal with zeros.
-#[derive(Drop)]
+#[derive(Clone, Copy)]
 pub struct Started {
     pub refusal: u64,
     pub walk: Walk,
 }
 
 /// What a step answers, and the walk after it: one place further if a segment was answered, else as it was.
-#[derive(Drop)]
+#[derive(Clone, Copy)]
 pub struct Stepped {
     pub step: Step,
     pub walk: Walk,

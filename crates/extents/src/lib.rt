@@ -1,4 +1,5 @@
 //! The left and the right edge of a thick line (01's rule W5).
+#![tactic(auto)]
 pub mod inner; // inner.rt: the edges of a line that is known to be within its limits
 
 ghost use Rattle.std.specs.Prelude.{◌≡◌};
@@ -11,28 +12,28 @@ use shapes::strokes::stroke_refusal;
 use shapes::{Line, Offset, Point};
 
 /// Where an edge begins, and whether its parallel is an Extra one, which is a pixel shorter.
-#[derive(Drop)]
+#[derive(Clone, Copy)]
 pub struct Edge {
     pub point: Point,
     pub extra: bool,
 }
 
 /// Where both edges begin.
-#[derive(Drop)]
+#[derive(Clone, Copy)]
 pub struct Ends {
     pub left: Edge,
     pub right: Edge,
 }
 
 /// The two edges of a line.
-#[derive(Drop)]
+#[derive(Clone, Copy)]
 pub struct Edges {
     pub left: Line,
     pub right: Line,
 }
 
 /// A refusal, or 0 and the two edges; a refusal has 0 in all other fields.
-#[derive(Drop)]
+#[derive(Clone, Copy)]
 pub struct Answer {
     pub refusal: u64,
     pub left: Line,

@@ -1,4 +1,5 @@
 //! Where two lines cross, and whether they run so nearly alike that rounding spoils the crossing: `intersection_params.rs`.
+#![tactic(auto)]
 ghost use Rattle.std.specs.Prelude.{◌≡◌};
 ghost use Rattle.shapes.specs.Limits.{crossing_limit};
 ghost use Rattle.intersection_params.specs.Crossing.{are_lines_near, crossing_values, crossing_answer, nearly_answer};
@@ -14,7 +15,7 @@ use shapes::{Divisions, Line, Point, Side};
 use whole::inner::both;
 
 /// What two lines, made longer without end, have in common.
-#[derive(Drop)]
+#[derive(Clone, Copy)]
 pub enum Intersection {
     /// A single point, rounded to the nearest whole coordinates, and the outer side of the bend from the first line to the
     /// second.
@@ -24,7 +25,7 @@ pub enum Intersection {
 }
 
 /// The answer of `crossing`.
-#[derive(Drop)]
+#[derive(Clone, Copy)]
 pub enum Crossed {
     /// As `Intersection::At`; and how each coordinate came out: the point is the true crossing where both are exact.
     At(Point, Side, Divisions),
@@ -35,7 +36,7 @@ pub enum Crossed {
 }
 
 /// The true crossing of two lines, not rounded: (x / determinant, y / determinant) where the determinant is not 0.
-#[derive(Drop)]
+#[derive(Clone, Copy)]
 pub struct Solution {
     pub determinant: i64,
     /// The numerator of the column.

@@ -19,7 +19,7 @@ use shapes::{Line, Point, Side};
 
 /// What two edges meet at: their crossing or the end of the first of them, or nothing where they are parallel; and where that
 /// comes from.
-#[derive(Drop)]
+#[derive(Clone, Copy)]
 pub struct Meeting {
     pub found: Intersection,
     pub origin: Origin,

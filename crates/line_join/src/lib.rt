@@ -1,4 +1,5 @@
 //! How two thick lines are joined: `line_join.rs`.
+#![tactic(auto)]
 ghost use Rattle.std.specs.Prelude.{◌≡◌};
 ghost use Rattle.shapes.specs.Limits.{corner_limit, panel};
 ghost use Rattle.line_join.specs.Answers.{join_values, filler_values, caps_values, made_of, start_answer, end_answer, points_answer};
@@ -20,7 +21,7 @@ use shapes::{Divisions, Line, Offset, Point, Side, limits};
 use whole::inner::both;
 
 /// How a join looks.
-#[derive(Drop)]
+#[derive(Clone, Copy)]
 pub enum Kind {
     /// A sharp point.
     Miter,
@@ -37,14 +38,14 @@ pub enum Kind {
 }
 
 /// The two corners of an edge across a thick line.
-#[derive(Drop)]
+#[derive(Clone, Copy)]
 pub struct Corners {
     pub left: Point,
     pub right: Point,
 }
 
 /// Where a corner comes from.
-#[derive(Drop)]
+#[derive(Clone, Copy)]
 pub enum Origin {
     /// The end of an edge. It may lie on a crossing all the same: nothing is said of that.
     NotACrossing,
@@ -54,7 +55,7 @@ pub enum Origin {
 }
 
 /// Where the left and the right corners of a join come from.
-#[derive(Drop)]
+#[derive(Clone, Copy)]
 pub struct Origins {
     pub left: Origin,
     pub right: Origin,
@@ -63,7 +64,7 @@ pub struct Origins {
 /// A join: its kind, the corners at which the line before it ends (the Rust's `first_edge_end`), those at which the
 /// line after it begins (`second_edge_start`), and where they come from. A miter uses both crossings of its edges, a bevel
 /// the one on its inner side, unless they run nearly alike; every other corner is an edge's end.
-#[derive(Drop)]
+#[derive(Clone, Copy)]
 pub struct Join {
     pub kind: Kind,
     /// A few bytes, which beside those of the kind take no room of their own.
@@ -75,7 +76,7 @@ pub struct Join {
 }
 
 /// The answer of a constructor.
-#[derive(Drop)]
+#[derive(Clone, Copy)]
 pub enum Joined {
     /// A join whose corners are all within 4,095.
     Made(Join),
@@ -84,7 +85,7 @@ pub enum Joined {
 }
 
 /// What closes the gap of a join on its outer side.
-#[derive(Drop)]
+#[derive(Clone, Copy)]
 pub enum Filler {
     /// The line between the outer corners of a bevel or of a degenerate join.
     Filled(Line),
@@ -95,7 +96,7 @@ pub enum Filler {
 }
 
 /// The lines that close a thick line's end at a join.
-#[derive(Drop)]
+#[derive(Clone, Copy)]
 pub enum Caps {
     /// From the left corner to the right one.
     One(Line),
@@ -106,7 +107,7 @@ pub enum Caps {
 }
 
 /// Whether the lines at a join overlap, or the refusal with false. `bend` is the position of a join that is refused, else 0.
-#[derive(Drop)]
+#[derive(Clone, Copy)]
 pub struct Judged {
     pub refusal: u64,
     pub bend: usize,

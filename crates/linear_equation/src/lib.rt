@@ -1,4 +1,5 @@
 //! The equation of a line, how far a point lies from it, and on which side: the integer half of `linear_equation.rs`.
+#![tactic(auto)]
 ghost use Rattle.std.specs.Prelude.{◌≡◌};
 ghost use Rattle.shapes.specs.Limits.{crossing_limit};
 ghost use Rattle.linear_equation.specs.Equation.{are_inside, equation_answer, distance_answer, side_answer};
@@ -12,7 +13,7 @@ use shapes::{Line, Point, Side};
 use whole::inner::both;
 
 /// A line as those points p at which the dot product of p and `normal` is `distance`.
-#[derive(Drop)]
+#[derive(Clone, Copy)]
 pub struct LinearEquation {
     /// Perpendicular to the line, as long as the line.
     pub normal: Point,
@@ -21,21 +22,21 @@ pub struct LinearEquation {
 }
 
 /// The equation, or the refusal with zeros.
-#[derive(Drop)]
+#[derive(Clone, Copy)]
 pub struct Equated {
     pub refusal: u64,
     pub equation: LinearEquation,
 }
 
 /// The distance, or the refusal with 0.
-#[derive(Drop)]
+#[derive(Clone, Copy)]
 pub struct Measured {
     pub refusal: u64,
     pub distance: i64,
 }
 
 /// Whether a test holds, or the refusal with false.
-#[derive(Drop)]
+#[derive(Clone, Copy)]
 pub struct Tested {
     pub refusal: u64,
     pub holds: bool,

@@ -1,12 +1,13 @@
 //! The parallels of a thick line (the Rust's ParallelsIterator, of line/thick_points.rs).
 //! The steps are in `inner`; there are no entries here: `thick_points` lists the parallels.
+#![tactic(auto)]
 pub mod inner; // inner.rt: the parallels, one at a time
 
 use bresenham::{Bresenham, Parameters};
 use shapes::{Offset, Side};
 
 /// What stays the same over all parallels of a line.
-#[derive(Drop)]
+#[derive(Clone, Copy)]
 pub struct Plan {
     /// Moves along the parallels.
     pub parallel: Parameters,
@@ -20,14 +21,14 @@ pub struct Plan {
 }
 
 /// One side of the line: where its next parallel is looked for, and the error of that parallel's first point.
-#[derive(Drop)]
+#[derive(Clone, Copy)]
 pub struct Flank {
     pub at: Bresenham,
     pub error: i64,
 }
 
 /// How far the parallels are: both sides, the accumulated thickness, and the side that is next.
-#[derive(Drop)]
+#[derive(Clone, Copy)]
 pub struct Parallels {
     pub left: Flank,
     pub right: Flank,
@@ -36,7 +37,7 @@ pub struct Parallels {
 }
 
 /// A parallel: its side, the place its walk starts from, and whether it is an Extra one, which is a pixel shorter.
-#[derive(Drop)]
+#[derive(Clone, Copy)]
 pub struct Parallel {
     pub side: Side,
     pub start: Bresenham,
@@ -44,7 +45,7 @@ pub struct Parallel {
 }
 
 /// An error after an extra step: the one its parallel starts with, the one that is kept, and whether it carried.
-#[derive(Drop)]
+#[derive(Clone, Copy)]
 pub struct Bent {
     pub first: i64,
     pub error: i64,
@@ -52,7 +53,7 @@ pub struct Bent {
 }
 
 /// The next parallel of a side, and the side after it.
-#[derive(Drop)]
+#[derive(Clone, Copy)]
 pub struct Taken {
     pub start: Bresenham,
     pub extra: bool,
@@ -60,14 +61,14 @@ pub struct Taken {
 }
 
 /// One step across a side: the parallel that starts there, and whether it is met; else its point is to be passed over.
-#[derive(Drop)]
+#[derive(Clone, Copy)]
 pub struct Turn {
     pub taken: Taken,
     pub met: bool,
 }
 
 /// A parallel, and how far the parallels are after it.
-#[derive(Drop)]
+#[derive(Clone, Copy)]
 pub struct Yielded {
     pub parallel: Parallel,
     pub state: Parallels,

@@ -1,4 +1,5 @@
 //! A route's rows: the columns that its segments light.
+#![tactic(auto)]
 ghost use Rattle.std.specs.Prelude.{◌≡◌, length};
 ghost use Rattle.shapes.specs.Limits.{panel as panel_limits};
 ghost use Rattle.route.specs.Answers.{rows_answer, whole_answer, row_answer, row_to};
@@ -12,7 +13,7 @@ use shapes::limits::panel;
 
 /// The joins of a route, worked out once for all its rows: the first `count` of `joins`, one at each point. The first `near` of
 /// them have all their corners within the limit: all, or those before the first that has not.
-#[derive(Drop)]
+#[derive(Clone, Copy)]
 pub struct Joins {
     pub closed: bool,
     pub count: usize,
@@ -21,7 +22,7 @@ pub struct Joins {
 }
 
 /// The joins of a route, or a refusal: `refusal` is 0, or 1 to 4, 12 or 5. `bend` is the position that comes with 5, else 0.
-#[derive(Drop)]
+#[derive(Clone, Copy)]
 pub struct Prepared {
     pub refusal: u64,
     pub bend: usize,
@@ -30,7 +31,7 @@ pub struct Prepared {
 
 /// The rows of a route, `first` to `last`. `some` is false, and both are 0, where it has none, and in a refusal. `bend` is the
 /// position that comes with 5, else 0.
-#[derive(Drop)]
+#[derive(Clone, Copy)]
 pub struct RowRange {
     pub refusal: u64,
     pub bend: usize,
@@ -40,7 +41,7 @@ pub struct RowRange {
 }
 
 /// What a route is refused with as a whole, or 0. `bend` is the position that comes with 5, else 0.
-#[derive(Drop)]
+#[derive(Clone, Copy)]
 pub struct Verdict {
     pub refusal: u64,
     pub bend: usize,
@@ -48,7 +49,7 @@ pub struct Verdict {
 
 /// What a row's listing answers: the number of runs and of their columns, or a refusal and zeros. `bend` is the position that
 /// comes with 5, else 0.
-#[derive(Drop)]
+#[derive(Clone, Copy)]
 pub struct Listing {
     pub refusal: u64,
     pub bend: usize,

@@ -8,7 +8,7 @@ ghost use Rattle.route_file.specs.Form.{route_count, entry_at, is_entry_formed, 
 const ROUTES: usize = 16;
 
 /// What the file says of a route, as it stands there.
-#[derive(Drop)]
+#[derive(Clone, Copy)]
 pub struct Entry {
     pub offset: u16,
     pub points: u16,

@@ -1,4 +1,5 @@
 //! The route file: whether its form is right, and the points, the width and the closed flag of each of its routes.
+#![tactic(auto)]
 ghost use Rattle.std.specs.Prelude.{◌≡◌, length};
 ghost use Rattle.route_file.specs.Answers.{counted, described, pointed, pointed_to};
 
@@ -8,7 +9,7 @@ use inner::{count_of, entry_at, is_formed, write_numbers};
 use shapes::refusals::{FORM, ROOM};
 
 /// How many routes a file has, or a refusal and 0.
-#[derive(Drop)]
+#[derive(Clone, Copy)]
 pub struct Counted {
     pub refusal: u64,
     pub count: usize,
@@ -16,7 +17,7 @@ pub struct Counted {
 
 /// What a file says of a route besides its points: how many they are, the width, and whether the route is closed.
 /// `found` is false where the file has no such route; it and all that follows is 0 or false then, and in a refusal.
-#[derive(Drop)]
+#[derive(Clone, Copy)]
 pub struct Described {
     pub refusal: u64,
     pub found: bool,
@@ -26,7 +27,7 @@ pub struct Described {
 }
 
 /// How many numbers were written, or a refusal and 0.
-#[derive(Drop)]
+#[derive(Clone, Copy)]
 pub struct Pointed {
     pub refusal: u64,
     pub count: usize,

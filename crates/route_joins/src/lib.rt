@@ -1,11 +1,12 @@
 //! The joins and the segments of a route, each by its place, and what a step of a walk answers. The walks and a route's rows stand
 //! on it; it has no entries of its own.
+#![tactic(auto)]
 pub mod inner; // inner.rt: joins and segments by their place, and the step of every walk
 
 use thick_segment::Segment;
 
 /// What a step of a walk answers.
-#[derive(Drop)]
+#[derive(Clone, Copy)]
 pub enum Step {
     /// The segment at the walk's place.
     Drawn(Segment),
@@ -17,7 +18,7 @@ pub enum Step {
 }
 
 /// What a step of a walk answers, and the place after it: one further if a segment was answered, else the same.
-#[derive(Drop)]
+#[derive(Clone, Copy)]
 pub struct Placed {
     pub step: Step,
     pub place: usize,

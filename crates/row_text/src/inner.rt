@@ -17,7 +17,7 @@ use shapes::limits::Limits;
 use writing::{say, say_count, say_next, say_refused_at};
 
 /// Pixels on their way round a loop.
-#[derive(Drop)]
+#[derive(Clone, Copy)]
 struct Sum {
     total: i64,
 }

@@ -1,5 +1,6 @@
 //! Spans of a row: a new span, one made longer by a column or by the points of a line, two joined, and one handed out.
 //! `scanline.rs`, and 01's rule W6.
+#![tactic(auto)]
 ghost use Rattle.std.specs.Prelude.{◌≡◌};
 ghost use Rattle.shapes.specs.Limits.{corner_limit};
 ghost use Rattle.scanline.specs.Answers.{row_refusal, span_refusal, extend_refusal, meet_refusal, join_refusal};
@@ -16,14 +17,14 @@ use shapes::{Line, Span};
 use whole::inner::{both, within};
 
 /// A span, or the refusal with the span handed in as it was, or with zeros where none was handed in.
-#[derive(Drop)]
+#[derive(Clone, Copy)]
 pub struct Spanned {
     pub refusal: u64,
     pub span: Span,
 }
 
 /// Whether two spans were joined, and the span then; or the refusal with false and the span handed in as it was.
-#[derive(Drop)]
+#[derive(Clone, Copy)]
 pub struct Extended {
     pub refusal: u64,
     pub joined: bool,
@@ -32,7 +33,7 @@ pub struct Extended {
 
 /// Whether a span was handed out, that span, and what is left; or the refusal with false, zeros, and the span handed in as
 /// it was as what is left.
-#[derive(Drop)]
+#[derive(Clone, Copy)]
 pub struct Taken {
     pub refusal: u64,
     pub taken: bool,
@@ -41,14 +42,14 @@ pub struct Taken {
 }
 
 /// What joining answers inside: whether two spans were joined, and the span then.
-#[derive(Drop)]
+#[derive(Clone, Copy)]
 pub struct Joined {
     pub joined: bool,
     pub span: Span,
 }
 
 /// What taking answers inside: whether a span was handed out, that span (else 0, 0 to 0), and what is left.
-#[derive(Drop)]
+#[derive(Clone, Copy)]
 pub struct Handed {
     pub taken: bool,
     pub span: Span,

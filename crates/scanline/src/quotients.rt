@@ -11,7 +11,7 @@ use shapes::inner::delta;
 use whole::inner::{both, greater, lesser, size};
 
 /// How many columns from a line's start the first and the last of its points on a row are.
-#[derive(Drop)]
+#[derive(Clone, Copy)]
 pub struct Ends {
     pub first: u64,
     pub last: u64,

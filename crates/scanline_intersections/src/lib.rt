@@ -1,5 +1,6 @@
 //! The polyline's walk along one row: its segments, and the spans of the segments on the row, merged while they overlap or are
 //! adjacent. `polyline/scanline_intersections.rs`, with 01's rule W6.
+#![tactic(auto)]
 ghost use Rattle.std.specs.Prelude.{◌≡◌};
 ghost use Rattle.route_joins.specs.Steps.{step_values};
 ghost use Rattle.shapes.specs.Limits.{panel as panel_limits};
@@ -20,7 +21,7 @@ use whole::inner::within;
 /// A walk along the segments of an open route on one row: the place of the next segment, the stroke's width, and the span that is
 /// being gathered, on the row. Any numbers may be handed in: a place past the last segment is the end, and a bad width, row or
 /// column is refused by the entry that looks at it.
-#[derive(Drop)]
+#[derive(Clone, Copy)]
 pub struct Intersections {
     pub place: usize,
     pub width: i64,
@@ -28,14 +29,14 @@ pub struct Intersections {
 }
 
 /// A walk at its first segment, or the refusal with zeros.
-#[derive(Drop)]
+#[derive(Clone, Copy)]
 pub struct Started {
     pub refusal: u64,
     pub walk: Intersections,
 }
 
 /// What a step answers, and the walk after it: one place further if a segment was answered, else as it was.
-#[derive(Drop)]
+#[derive(Clone, Copy)]
 pub struct Stepped {
     pub step: Step,
     pub walk: Intersections,
@@ -43,7 +44,7 @@ pub struct Stepped {
 
 /// Whether there is one more merged span, that span (else 0, 0 to 0), and the walk after it; or the refusal with false, zeros, and
 /// the walk handed in as it was. `bend` is the position that comes with 5, else 0.
-#[derive(Drop)]
+#[derive(Clone, Copy)]
 pub struct Merged {
     pub refusal: u64,
     pub bend: usize,
@@ -53,7 +54,7 @@ pub struct Merged {
 }
 
 /// What a walk is refused with, 0 where it is not, and the position that comes with 5.
-#[derive(Drop)]
+#[derive(Clone, Copy)]
 struct Verdict {
     refusal: u64,
     bend: usize,

@@ -1,4 +1,5 @@
 //! Points, lines and sides, and the numbers that bound the work.
+#![tactic(auto)]
 pub mod inner; // inner.rt: what is worked out of them
 pub mod limits; // limits.rt: 01's table of numbers
 pub mod refusals; // refusals.rt: 01's table of refusals, with K6's 12
@@ -8,35 +9,35 @@ pub mod strokes; // strokes.rt: widths, and what a stroke's input is refused wit
 use whole::Division;
 
 /// A point of the screen: columns grow to the right, rows grow downwards.
-#[derive(Drop)]
+#[derive(Clone, Copy)]
 pub struct Point {
     pub x: i64,
     pub y: i64,
 }
 
 /// How the divisions come out that give the coordinates of a point.
-#[derive(Drop)]
+#[derive(Clone, Copy)]
 pub struct Divisions {
     pub x: Division,
     pub y: Division,
 }
 
 /// A line from its start to its end, both included.
-#[derive(Drop)]
+#[derive(Clone, Copy)]
 pub struct Line {
     pub start: Point,
     pub end: Point,
 }
 
 /// A side of a line, for one who stands at its start and looks at its end.
-#[derive(Drop)]
+#[derive(Clone, Copy)]
 pub enum Side {
     Left,
     Right,
 }
 
 /// Where a stroke lies: on both sides of its line, or on one.
-#[derive(Drop)]
+#[derive(Clone, Copy)]
 pub enum Offset {
     None,
     Left,
@@ -44,7 +45,7 @@ pub enum Offset {
 }
 
 /// Columns of one row, from `start` to `end`, `end` not included; none where `end` is not above `start`.
-#[derive(Drop)]
+#[derive(Clone, Copy)]
 pub struct Span {
     pub row: i64,
     pub start: i64,

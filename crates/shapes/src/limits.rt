@@ -6,7 +6,7 @@ ghost use Rattle.shapes.specs.Limits.{panel as panel_limits};
 
 /// What coordinates and rows are held against: a route point, a line at the crossing's own entry, and a join's corner, a row
 /// or a column, each from minus its limit to its limit.
-#[derive(Drop)]
+#[derive(Clone, Copy)]
 pub struct Limits {
     pub point: u32,
     pub crossing: u32,

@@ -1,6 +1,7 @@
 //! Steps sample routes in place, from the first segment to the end and once more. A line tells what a step answers, behind the place
 //! that it leaves its walk at: of a segment the right edge, the left edge, the start and end of its span on one row, and of each of its two joins the origins and the position. The
 //! spans of a route go to a board of that row, whose runs are then listed to twelve numbers and to four records. The last three walks are refused.
+#![tactic(auto)]
 mod owners; // owners.rt: owners that lend what is worked on in place
 
 use board::{Board, Run};
@@ -80,14 +81,14 @@ fn list(board: Board) {
     say(b"\n");
 }
 
-#[derive(Drop)]
+#[derive(Clone, Copy)]
 enum Walker {
     Open(thick_segment_iter::Walk),
     Closed(closed_thick_segment_iter::Walk),
 }
 
 /// What a step answers, and the walk as it was left, at its place.
-#[derive(Drop)]
+#[derive(Clone, Copy)]
 struct Left {
     step: Step,
     place: usize,

@@ -11,7 +11,7 @@ use board_records::list_records;
 use walks_in_place::{step_closed, step_open};
 
 /// A listing, and the two lists as it left them.
-#[derive(Drop)]
+#[derive(Clone, Copy)]
 pub struct Lists {
     pub listed: Listed,
     pub numbers: [i64; 12],

@@ -1,4 +1,5 @@
 //! Joins in the questions and answers of the programs that replay stored questions.
+#![tactic(auto)]
 ghost use Rattle.std.specs.Prelude.{◌≡◌};
 ghost use Rattle.line_join.specs.Join.{corners_of};
 ghost use Rattle.test_joins.specs.Joins.{kind_of, join_at};
@@ -13,7 +14,7 @@ use whole::inner::size;
 use writing::{say, say_count};
 
 /// A join that was read, and the place of the number after it.
-#[derive(Drop)]
+#[derive(Clone, Copy)]
 pub struct JoinAt {
     pub join: Join,
     pub next: usize,

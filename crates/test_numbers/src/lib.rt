@@ -1,17 +1,18 @@
 //! Reading a text: a whole number at a place, and the place after a byte.
+#![tactic(auto)]
 ghost use Rattle.std.specs.Prelude.{◌≡◌, get_or};
 ghost use Rattle.test_numbers.specs.Numbers.{is_digit, digits_at, number_at};
 ghost use Rattle.test_numbers.specs.Lines.{skip_past};
 
 /// What was read: the number, and the place after it.
-#[derive(Drop)]
+#[derive(Clone, Copy)]
 pub struct Number {
     pub value: i64,
     pub next: usize,
 }
 
 /// The number that digits say, and the place after them.
-#[derive(Drop)]
+#[derive(Clone, Copy)]
 struct Digits {
     value: u64,
     next: usize,

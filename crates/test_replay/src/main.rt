@@ -1,5 +1,6 @@
 //! Answers the stored lists of questions, one line for each line. What it must write stands in `stdout`; none of it comes from
 //! this repository's code (oracle/README.md).
+#![tactic(auto)]
 mod boards; // boards.rt: histories of boards
 mod files; // files.rt: route files
 mod joins; // joins.rt: joins, and the lines of a join handed in

@@ -12,14 +12,14 @@ use whole::inner::within;
 use writing::{say, say_count, say_next, say_number, say_refused, say_refused_at};
 
 /// A segment that was read, and the place of the number after it.
-#[derive(Drop)]
+#[derive(Clone, Copy)]
 struct SegmentAt {
     segment: Segment,
     next: usize,
 }
 
 /// A span that was read, and the place of the number after it.
-#[derive(Drop)]
+#[derive(Clone, Copy)]
 struct SpanAt {
     span: Span,
     next: usize,

@@ -12,7 +12,7 @@ use thick_segment_iter::Walk as OpenWalk;
 use writing::{say, say_count, say_next, say_number, say_refused, say_refused_at};
 
 /// What stands before the list of coordinates: how many there are, and the place of the first.
-#[derive(Drop)]
+#[derive(Clone, Copy)]
 struct Asked {
     kind: u8,
     width: i64,
@@ -83,7 +83,7 @@ fn answer_kind(asked: Asked, coordinates: &[i64]) {
 }
 
 /// What is left to be told of a walk.
-#[derive(Drop)]
+#[derive(Clone, Copy)]
 enum Left {
     Open(OpenWalk),
     Closed(ClosedWalk),

@@ -1,6 +1,7 @@
 //! Prints of each stored route file what `rows` prints of it: one file a line of standard input, two hexadecimal digits a byte, `-`
 //! for the empty file. What it must write stands in `stdout`, and comes from two other calculations of the same rules
 //! (oracle/README.md).
+#![tactic(auto)]
 use libc::STDIN_FILENO;
 use test_text::read_bytes;
 

@@ -1,5 +1,6 @@
 //! Questions and answers as text, for the programs that replay stored questions: sizes, points and lines are read out of a
 //! question, and lists, points and lines are written to standard output. No contract can say what is written.
+#![tactic(auto)]
 ghost use Rattle.std.specs.Prelude.{◌≡◌, ◌≤◌, length};
 ghost use Rattle.test_text.specs.Questions.{next_place, point_at, line_at, offset_at};
 
@@ -7,14 +8,14 @@ use shapes::{Line, Offset, Point, Span};
 use writing::{say, say_next, say_number};
 
 /// A point that was read, and the place of the number after it.
-#[derive(Drop)]
+#[derive(Clone, Copy)]
 pub struct PointAt {
     pub point: Point,
     pub next: usize,
 }
 
 /// A line that was read, and the place of the number after it.
-#[derive(Drop)]
+#[derive(Clone, Copy)]
 pub struct LineAt {
     pub line: Line,
     pub next: usize,

@@ -19,7 +19,7 @@ use shapes::strokes::stroke_refusal;
 use shapes::{Line, Offset};
 
 /// What a list tells of each parallel.
-#[derive(Drop)]
+#[derive(Clone, Copy)]
 pub enum Telling {
     /// Four numbers: x and y of its start, the error that it starts with, and 1 where it is Extra, else 0.
     Start,

@@ -1,4 +1,5 @@
 //! The points of a thick line (the Rust's ThickPoints, of line/thick_points.rs), and its parallels, as numbers in a lent list.
+#![tactic(auto)]
 pub mod inner; // inner.rt: what is told of each parallel, and the one listing of both entries
 
 ghost use Rattle.std.specs.Prelude.{◌≡◌, length};
@@ -12,7 +13,7 @@ use shapes::limits::POINT;
 use shapes::{Line, Offset};
 
 /// A refusal, or 0 and how many were written; a refusal counts 0.
-#[derive(Drop)]
+#[derive(Clone, Copy)]
 pub struct Listed {
     pub refusal: u64,
     pub count: usize,

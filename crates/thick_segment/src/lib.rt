@@ -1,6 +1,7 @@
 //! A thick segment between two joins: whether it is a skeleton, its edges and their bounding box, the lines that are drawn and their
 //! rows, and its span on a row. `thick_segment.rs`. The position that comes with 5 is that of the join with a corner beyond 4,095,
 //! of the start join if both have one.
+#![tactic(auto)]
 ghost use Rattle.std.specs.Prelude.{◌≡◌};
 ghost use Rattle.shapes.specs.Limits.{corner_limit};
 ghost use Rattle.thick_segment.specs.Answers.{skeleton_answer, edges_answer, box_answer, perimeter_answer, count_answer, drawn_rows_answer, segment_refusal, span_answer};
@@ -14,35 +15,35 @@ use shapes::{Line, Point, Span, limits};
 use whole::inner::within;
 
 /// A thick line from the join at its start to the join at its end.
-#[derive(Drop)]
+#[derive(Clone, Copy)]
 pub struct Segment {
     pub start: Join,
     pub end: Join,
 }
 
 /// The two long edges of a segment: the right one runs along it, the left one back.
-#[derive(Drop)]
+#[derive(Clone, Copy)]
 pub struct EdgePair {
     pub right: Line,
     pub left: Line,
 }
 
 /// A box by its corners of least and of greatest coordinates, both included.
-#[derive(Drop)]
+#[derive(Clone, Copy)]
 pub struct Rectangle {
     pub first: Point,
     pub last: Point,
 }
 
 /// Rows from `first` to `last`, both included.
-#[derive(Drop)]
+#[derive(Clone, Copy)]
 pub struct Rows {
     pub first: i64,
     pub last: i64,
 }
 
 /// The edges, or the refusal with zeros. `bend` is the position that comes with 5, else 0.
-#[derive(Drop)]
+#[derive(Clone, Copy)]
 pub struct Edged {
     pub refusal: u64,
     pub bend: usize,
@@ -50,7 +51,7 @@ pub struct Edged {
 }
 
 /// The box, or the refusal with zeros. `bend` is the position that comes with 5, else 0.
-#[derive(Drop)]
+#[derive(Clone, Copy)]
 pub struct Boxed {
     pub refusal: u64,
     pub bend: usize,
@@ -58,7 +59,7 @@ pub struct Boxed {
 }
 
 /// The rows of the lines that are drawn, or the refusal with zeros. `bend` is the position that comes with 5, else 0.
-#[derive(Drop)]
+#[derive(Clone, Copy)]
 pub struct DrawnRows {
     pub refusal: u64,
     pub bend: usize,
@@ -66,7 +67,7 @@ pub struct DrawnRows {
 }
 
 /// Whether a segment is one pixel wide, or the refusal with false. `bend` is the position that comes with 5, else 0.
-#[derive(Drop)]
+#[derive(Clone, Copy)]
 pub struct Skeletal {
     pub refusal: u64,
     pub bend: usize,
@@ -74,7 +75,7 @@ pub struct Skeletal {
 }
 
 /// A segment's span on a row, or the refusal with zeros. `bend` is the position that comes with 5, else 0.
-#[derive(Drop)]
+#[derive(Clone, Copy)]
 pub struct SegmentSpan {
     pub refusal: u64,
     pub bend: usize,
@@ -82,7 +83,7 @@ pub struct SegmentSpan {
 }
 
 /// How many lines are drawn, or the refusal with 0. `bend` is the position that comes with 5, else 0.
-#[derive(Drop)]
+#[derive(Clone, Copy)]
 pub struct Counted {
     pub refusal: u64,
     pub bend: usize,

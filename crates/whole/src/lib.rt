@@ -1,8 +1,9 @@
 //! Whole numbers, with no shapes in them: what the port's rules say of numbers alone.
+#![tactic(auto)]
 pub mod inner;
 
 /// How a division of whole numbers comes out.
-#[derive(Drop)]
+#[derive(Clone, Copy)]
 pub enum Division {
     /// The quotient is a whole number.
     Exact,

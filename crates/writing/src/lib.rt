@@ -1,4 +1,5 @@
 //! Words and numbers written to standard output. No contract can say what is written.
+#![tactic(auto)]
 use libc::STDOUT_FILENO;
 use shapes::refusals::CORNER;
 use whole::inner::size;

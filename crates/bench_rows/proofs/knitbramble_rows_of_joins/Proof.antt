@@ -16,65 +16,65 @@ use Rattle.bench_rows.proofs.Laws.{Left, left-all, left-more, left-none, nothing
 use Rattle.bench_rows.proofs.knitbramble_rows_of_joins.Statement.{statement}
 use Rattle.bench_rows.proofs.knitbramble_rows_of_joins.Tie as tie
 
-abbrev invariant-loop : tie.invariant-loop
+abbrev invariant-loop : tie.invariant-loop-i
 invariant-loop coordinates width closed rows out₀ route last₀ i₀ out last i =
     (i ≤ length rows) × ((length out ≡ length out₀) × Left panel closed coordinates (to_z w64 width) rows out₀ i last out)
 
-abbrev decreases-loop : tie.decreases-loop
+abbrev decreases-loop : tie.decreases-loop-i
 decreases-loop coordinates width closed rows out₀ route last₀ i₀ out last i = length rows - i
 
 roomy : Roomy panel
 roomy = record { point_room = lit≤ tt; corner_room = lit≤ tt }
 
-told : (c : tie.After-prepare invariant-loop decreases-loop) → let a = c.before.before.args in c.prepare.result ≡ prepared_of panel a.closed a.coordinates.now (to_z w64 (of_z w64 a.width))
+told : (c : tie.After-prepare-route invariant-loop decreases-loop) → let a = c.before.before.args in c.prepare-route.result ≡ prepared_of panel a.closed a.coordinates.now (to_z w64 (of_z w64 a.width))
 told c = cc
 
 -- nothing refuses the route
-free : (c : tie.Else1 invariant-loop decreases-loop) → let p = c.before.before in let a = p.before.before.args in
-    Ready panel a.closed a.coordinates.now (to_z w64 (of_z w64 a.width)) p.prepare.result.joins
-free c = let p = c.before.before in let a = p.before.before.args in ready panel a.closed a.coordinates.now (to_z w64 (of_z w64 a.width)) roomy (told p) c.if1.false
+free : (c : tie.Else-route-ne0 invariant-loop decreases-loop) → let p = c.before.before in let a = p.before.before.args in
+    Ready panel a.closed a.coordinates.now (to_z w64 (of_z w64 a.width)) p.prepare-route.result.joins
+free c = let p = c.before.before in let a = p.before.before.args in ready panel a.closed a.coordinates.now (to_z w64 (of_z w64 a.width)) roomy (told p) c.if-route-ne0.false
 
-returns : tie.Need-returns invariant-loop decreases-loop
+returns : tie.Need-returns-then-route-ne0 invariant-loop decreases-loop
 returns c =
     let p = c.before.before in
     let s = p.before.before in
     let a = s.args in
     let w = to_z w64 (of_z w64 a.width) in
-    let none = nothing-drawn panel a.closed a.coordinates.now w (refused-with panel a.closed a.coordinates.now w (told p)) c.if1.true a.rows.now a.out.now in
+    let none = nothing-drawn panel a.closed a.coordinates.now w (refused-with panel a.closed a.coordinates.now w (told p)) c.if-route-ne0.true a.rows.now a.out-1.now in
     let is = rw (to_z-of_z s.ranges.width) at none in
     (sym is.0, sym is.1)
 
-loop-holds : tie.Need-loop-init invariant-loop decreases-loop
-loop-holds c = let a = c.before.before.before.before.before.args in (omega arith, (refl, left-all panel a.closed a.coordinates.now (to_z w64 (of_z w64 a.width)) a.rows.now a.out.now c.refused.ensures))
+loop-holds : tie.Need-loop-i-init invariant-loop decreases-loop
+loop-holds c = let a = c.before.before.before.before.before.args in (omega arith, (refl, left-all panel a.closed a.coordinates.now (to_z w64 (of_z w64 a.width)) a.rows.now a.out-1.now c.refused-last.ensures))
 
-loop-again : tie.Need-loop-preserved invariant-loop decreases-loop
+loop-again : tie.Need-loop-i-preserved invariant-loop decreases-loop
 loop-again c =
-    let l = c.before.before.before.before.before in
+    let l = c.before.before.before.before.before.before.before.before in
     let e = l.before.before in
     let a = e.before.before.before.before.args in
-    let y = get_or a.rows.now l.loop.i (pos 0) in
-    let drawn = rw (to_z-of_z {w = w64} {z = y} (search rules)) at c.before.row_of.ensures in
+    let y = get_or a.rows.now l.loop-i.i (pos 0) in
+    let drawn = rw (to_z-of_z {w = w64} {z = y} (search rules)) at c.before.row_of-last.ensures in
     let w = to_z w64 (of_z w64 a.width) in
-    let inv = l.loop.invariant in (
+    let inv = l.loop-i.invariant in (
       omega arith,
       (
         search rules,
-        left-more panel a.closed a.coordinates.now (to_z w64 (of_z w64 a.width)) a.rows.now a.out.now l.loop.i l.loop.last l.loop.out (omega arith) inv.1.0
-            (drawn.0 ∙ row_made panel a.closed a.coordinates.now w (free e) y (length l.loop.out)) (drawn.1 ∙ list-made panel a.closed a.coordinates.now w (free e) y l.loop.out) inv.1.1,
+        left-more panel a.closed a.coordinates.now (to_z w64 (of_z w64 a.width)) a.rows.now a.out-1.now l.loop-i.i l.loop-i.last l.loop-i.out (omega arith) inv.1.0
+            (drawn.0 ∙ row_made panel a.closed a.coordinates.now w (free e) y (length l.loop-i.out)) (drawn.1 ∙ list-made panel a.closed a.coordinates.now w (free e) y l.loop-i.out) inv.1.1,
       ),
     )
 
-returns-2 : tie.Need-returns-2 invariant-loop decreases-loop
+returns-2 : tie.Need-returns invariant-loop decreases-loop
 returns-2 c =
     let l = c.before.before in
     let s = l.before.before.before.before.before.before in
     let a = s.args in
-    let all = left-none panel a.closed a.coordinates.now (to_z w64 (of_z w64 a.width)) a.rows.now a.out.now l.loop.i l.loop.last l.loop.out (omega (arith, l.loop.invariant.0)) l.loop.invariant.1.1 in
+    let all = left-none panel a.closed a.coordinates.now (to_z w64 (of_z w64 a.width)) a.rows.now a.out-1.now l.loop-i.i l.loop-i.last l.loop-i.out (omega (arith, l.loop-i.invariant.0)) l.loop-i.invariant.1.1 in
     let told = rw (to_z-of_z s.ranges.width) at all in
-    (to_z-of_z {w = w64} {z = l.loop.last.total} (search rules) ∙ told.0, told.1)
+    (to_z-of_z {w = w64} {z = l.loop-i.last.total} (search rules) ∙ told.0, told.1)
 
-pub knitbramble-rows-of-joins-spec : {M : Type 1} → statement M
-knitbramble-rows-of-joins-spec =
+pub knitbramble_rows_of_joins_spec : {M : Type 1} → statement M
+knitbramble_rows_of_joins_spec =
     tie.close
     (tie.spec
     invariant-loop
@@ -86,7 +86,7 @@ knitbramble-rows-of-joins-spec =
     loop-holds
     (λ c. search rules)
     (λ c. search rules)
-    (λ c κs. ((free c.before.before.before.before.before).kept, lit≤ tt))
+    (λ c κs. ((free c.before.before.before.before.before.before.before.before).kept, lit≤ tt))
     (λ c. search rules)
     (λ c. omega arith)
     loop-again

@@ -15,32 +15,32 @@ told : (c : tie.After-both) → let a = c.before.before.before.before.before.bef
     c.both.result ≡ (is_sound corner_limit a.board && eq_z a.span.row a.board.row)
 told c = let a = c.before.before.before.before.before.before.args in cc (bits-eq {x = a.span.row} {y = a.board.row} (search rules) (search rules))
 
-offer-sound-requires : tie.Need-offer-sound-requires
+offer-sound-requires : tie.Need-offer_sound-requires
 offer-sound-requires c κs =
     let t = c.before.before in
     let a = t.before.before.before.before.before.before.before.args in
-    ((sound-iff corner_limit a.board).0 (and_left (is_sound corner_limit a.board) (eq_z a.span.row a.board.row) (sym (told t.before) ∙ t.if1.true))).few
+    ((sound-iff corner_limit a.board).0 (and_left (is_sound corner_limit a.board) (eq_z a.span.row a.board.row) (sym (told t.before) ∙ t.if-both.true))).few
 
-returns : tie.Need-returns
+returns : tie.Need-returns-then-is_sound
 unfolding offered
 returns c =
     let t2 = c.before in
     let t1 = t2.before.before in
-    rw (← told t1.before, t1.if1.true, ← t2.before.is-sound2.ensures, t2.if2.true) c.offer-sound.ensures
+    rw (← told t1.before, t1.if-both.true, ← t2.before.is_sound-then-both.ensures, t2.if-is_sound.true) c.offer_sound.ensures
 
-returns-2 : tie.Need-returns-2
+returns-2 : tie.Need-returns-then-both
 unfolding offered
 returns-2 c =
     let e2 = c.before in
     let t1 = e2.before.before in
-    rw (← told t1.before, t1.if1.true, ← e2.before.is-sound2.ensures, e2.if2.false) c.refused.ensures
+    rw (← told t1.before, t1.if-both.true, ← e2.before.is_sound-then-both.ensures, e2.if-is_sound.false) c.refused.ensures
 
-returns-3 : tie.Need-returns-3
+returns-3 : tie.Need-returns
 unfolding offered
-returns-3 c = rw (← told c.before.before, c.before.if1.false) c.refused2.ensures
+returns-3 c = rw (← told c.before.before, c.before.if-both.false) c.refused-2.ensures
 
-pub offer-spec : {M : Type 1} → statement M
-offer-spec =
+pub offer_spec : {M : Type 1} → statement M
+offer_spec =
     tie.close
     (tie.spec
     (λ c κs. search rules)

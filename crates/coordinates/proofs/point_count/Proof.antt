@@ -8,5 +8,5 @@ returns : tie.Need-returns
 unfolding point_count
 returns c = refl
 
-pub point-count-spec : {M : Type 1} → statement M
-point-count-spec = tie.close (tie.spec returns)
+pub point_count_spec : {M : Type 1} → statement M
+point_count_spec = tie.close (tie.spec returns)

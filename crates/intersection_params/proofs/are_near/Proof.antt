@@ -7,6 +7,6 @@ returns : tie.Need-returns
 unfolding are_lines_near
 returns c = cc
 
-pub are-near-spec : {M : Type 1} → statement M
-are-near-spec =
+pub are_near_spec : {M : Type 1} → statement M
+are_near_spec =
     tie.close (tie.spec (λ c κs. search rules) (λ c κs. search rules) (λ c κs. search rules) returns)

@@ -4,13 +4,13 @@ use Rattle.line_join.specs.Answers.{made_of}
 use Rattle.line_join.proofs.checked.Statement.{statement}
 use Rattle.line_join.proofs.checked.Tie as tie
 
-returns : tie.Need-returns
+returns : tie.Need-returns-then-is_join_near
 unfolding made_of
-returns c = simp (sym c.before.is-join-near.ensures ∙ c.if1.true)
+returns c = simp (sym c.before.is_join_near.ensures ∙ c.if-is_join_near.true)
 
-returns-2 : tie.Need-returns-2
+returns-2 : tie.Need-returns
 unfolding made_of
-returns-2 c = simp (sym c.before.is-join-near.ensures ∙ c.if1.false)
+returns-2 c = simp (sym c.before.is_join_near.ensures ∙ c.if-is_join_near.false)
 
-pub checked-spec : {M : Type 1} → statement M
-checked-spec = tie.close (tie.spec (λ c κs. search rules) returns returns-2)
+pub checked_spec : {M : Type 1} → statement M
+checked_spec = tie.close (tie.spec (λ c κs. search rules) returns returns-2)

@@ -17,28 +17,28 @@ use Rattle.line_join.proofs.end.Tie as tie
 abbrev near : tie.Start → Bool
 near s = is_line_near point_limit (line_of s.args.a s.args.b)
 
-refusal : (c : tie.After-stroke-refusal) → c.stroke-refusal.result ≡ stroke_refusal c.before.before.args.width (near c.before.before)
+refusal : (c : tie.After-stroke_refusal-refusal) → c.stroke_refusal-refusal.result ≡ stroke_refusal c.before.before.args.width (near c.before.before)
 refusal c = cc (to_z-of_z c.before.before.ranges.width)
 
 end-requires : tie.Need-end-requires
 end-requires c κs =
     let s = c.before.before.before in
-    let inside = admitted corner_limit s.args.width (near s) (refusal c.before) c.if1.true in
+    let inside = admitted corner_limit s.args.width (near s) (refusal c.before) c.if-refusal-eq0.true in
     let line = true-line-near point_limit (line_of s.args.a s.args.b) inside.1 in
     (near-more line.start_near (lit≤ tt), (near-more line.end_near (lit≤ tt), thin-back inside.0))
 
-returns : tie.Need-returns
+returns : tie.Need-returns-then-refusal-eq0
 unfolding end_answer
 returns c =
     let t = c.before.before.before in
     let s = t.before.before.before in
-    answer-made corner_limit s.args.width (near s) (refusal t.before) _ t.if1.true (cc (to_z-of_z s.ranges.width))
+    answer-made corner_limit s.args.width (near s) (refusal t.before) _ t.if-refusal-eq0.true (cc (to_z-of_z s.ranges.width))
 
-returns-2 : tie.Need-returns-2
+returns-2 : tie.Need-returns
 unfolding end_answer
 returns-2 c =
     let s = c.before.before.before in
-    answer-refused corner_limit s.args.width (near s) (refusal c.before) _ c.if1.false
+    answer-refused corner_limit s.args.width (near s) (refusal c.before) _ c.if-refusal-eq0.false
 
-pub end-spec : {M : Type 1} → statement M
-end-spec = tie.close (tie.spec (λ c κs. search rules) (λ c κs. search rules) end-requires (λ c κs. search rules) (λ c κs. search rules) returns returns-2)
+pub end_spec : {M : Type 1} → statement M
+end_spec = tie.close (tie.spec (λ c κs. search rules) (λ c κs. search rules) end-requires (λ c κs. search rules) (λ c κs. search rules) returns returns-2)

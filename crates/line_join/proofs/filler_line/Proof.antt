@@ -4,13 +4,13 @@ use Rattle.line_join.specs.Answers.{filler_values, filler_answer}
 use Rattle.line_join.proofs.filler_line.Statement.{statement}
 use Rattle.line_join.proofs.filler_line.Tie as tie
 
-returns : tie.Need-returns
+returns : tie.Need-returns-then-is_join_near
 unfolding filler_answer
-returns c = ap filler_values c.filler.ensures ∙ simp (sym c.before.before.is-join-near.ensures ∙ c.before.if1.true)
+returns c = ap filler_values c.filler.ensures ∙ simp (sym c.before.before.is_join_near.ensures ∙ c.before.if-is_join_near.true)
 
-returns-2 : tie.Need-returns-2
+returns-2 : tie.Need-returns
 unfolding filler_answer
-returns-2 c = simp (sym c.before.is-join-near.ensures ∙ c.if1.false)
+returns-2 c = simp (sym c.before.is_join_near.ensures ∙ c.if-is_join_near.false)
 
-pub filler-line-spec : {M : Type 1} → statement M
-filler-line-spec = tie.close (tie.spec (λ c κs. search rules) (λ c κs. search rules) returns returns-2)
+pub filler_line_spec : {M : Type 1} → statement M
+filler_line_spec = tie.close (tie.spec (λ c κs. search rules) (λ c κs. search rules) returns returns-2)

@@ -18,31 +18,31 @@ use Rattle.line_join.proofs.from_points.Tie as tie
 abbrev near : tie.Start → Bool
 near s = is_line_near point_limit (line_of s.args.a s.args.b) && is_near point_limit s.args.c
 
-refusal : (c : tie.After-stroke-refusal) → c.stroke-refusal.result ≡ stroke_refusal c.before.before.before.before.args.width (near c.before.before.before.before)
+refusal : (c : tie.After-stroke_refusal-refusal) → c.stroke_refusal-refusal.result ≡ stroke_refusal c.before.before.before.before.args.width (near c.before.before.before.before)
 refusal c = cc (to_z-of_z c.before.before.before.before.ranges.width)
 
-from-points-requires : tie.Need-from-points-requires
+from-points-requires : tie.Need-from_points-join-requires
 from-points-requires c κs =
     let s = c.before.before.before.before.before in
     let line = line_of s.args.a s.args.b in
-    let inside = admitted corner_limit s.args.width (near s) (refusal c.before) c.if1.true in
+    let inside = admitted corner_limit s.args.width (near s) (refusal c.before) c.if-refusal-eq0.true in
     let all = (and-iff (is_line_near point_limit line) (is_near point_limit s.args.c) (line-near-iff point_limit line) (near-iff point_limit s.args.c)).0 inside.1 in
     (near-more all.0.start_near (lit≤ tt), (near-more all.0.end_near (lit≤ tt), (near-more all.1 (lit≤ tt), thin-back inside.0)))
 
-returns : tie.Need-returns
+returns : tie.Need-returns-then-refusal-eq0
 unfolding points_answer
 returns c =
     let t = c.before.before.before in
     let s = t.before.before.before.before.before in
-    answer-made corner_limit s.args.width (near s) (refusal t.before) _ t.if1.true (cc (to_z-of_z s.ranges.width))
+    answer-made corner_limit s.args.width (near s) (refusal t.before) _ t.if-refusal-eq0.true (cc (to_z-of_z s.ranges.width))
 
-returns-2 : tie.Need-returns-2
+returns-2 : tie.Need-returns
 unfolding points_answer
 returns-2 c =
     let s = c.before.before.before.before.before in
-    answer-refused corner_limit s.args.width (near s) (refusal c.before) _ c.if1.false
+    answer-refused corner_limit s.args.width (near s) (refusal c.before) _ c.if-refusal-eq0.false
 
-pub from-points-spec : {M : Type 1} → statement M
-from-points-spec =
+pub from_points_spec : {M : Type 1} → statement M
+from_points_spec =
     tie.close
     (tie.spec (λ c κs. search rules) (λ c κs. search rules) (λ c κs. search rules) (λ c κs. search rules) from-points-requires (λ c κs. search rules) (λ c κs. search rules) returns returns-2)

@@ -5,8 +5,8 @@ use Rattle.linear_equation.proofs.are_near.Tie as tie
 
 returns : tie.Need-returns
 unfolding are_inside
-returns c = rw (c.both.ensures, c.before.before.is-line-near.ensures, c.before.is-near.ensures)
+returns c = rw (c.both.ensures, c.before.before.is_line_near.ensures, c.before.is_near.ensures)
 
-pub are-near-spec : {M : Type 1} → statement M
-are-near-spec =
+pub are_near_spec : {M : Type 1} → statement M
+are_near_spec =
     tie.close (tie.spec (λ c κs. search rules) (λ c κs. search rules) (λ c κs. search rules) returns)

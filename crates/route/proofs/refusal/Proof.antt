@@ -14,28 +14,28 @@ use Rattle.route.proofs.refusal.Tie as tie
 roomy : Roomy panel
 roomy = record { point_room = lit≤ tt; corner_room = lit≤ tt }
 
-told : (c : tie.After-prepare) → let a = c.before.before.args in c.prepare.result ≡ prepared_of panel a.closed a.coordinates.now a.width
+told : (c : tie.After-prepare-route) → let a = c.before.before.args in c.prepare-route.result ≡ prepared_of panel a.closed a.coordinates.now a.width
 told c = cc (to_z-of_z c.before.before.ranges.width)
 
 -- nothing refuses the route
-free : (c : tie.Else1) → let p = c.before.before in let a = p.before.before.args in Ready panel a.closed a.coordinates.now a.width p.prepare.result.joins
-free c = let p = c.before.before in let a = p.before.before.args in ready panel a.closed a.coordinates.now a.width roomy (told p) c.if1.false
+free : (c : tie.Else-route-ne0) → let p = c.before.before in let a = p.before.before.args in Ready panel a.closed a.coordinates.now a.width p.prepare-route.result.joins
+free c = let p = c.before.before in let a = p.before.before.args in ready panel a.closed a.coordinates.now a.width roomy (told p) c.if-route-ne0.false
 
-returns : tie.Need-returns
+returns : tie.Need-returns-then-route-ne0
 returns c =
     let p = c.before.before in
     let a = p.before.before.args in
-    verdict-stopped panel a.closed a.coordinates.now a.width (refused-with panel a.closed a.coordinates.now a.width (told p)) c.if1.true
+    verdict-stopped panel a.closed a.coordinates.now a.width (refused-with panel a.closed a.coordinates.now a.width (told p)) c.if-route-ne0.true
     (named-with panel a.closed a.coordinates.now a.width (told p))
 
-rows-refusal-requires : tie.Need-rows-refusal-requires
-rows-refusal-requires c κs = let kept = (free c.before).kept in (kept, rw c.rows_of_lem.ensures (rows-near kept))
+rows-refusal-requires : tie.Need-rows_refusal-requires
+rows-refusal-requires c κs = let kept = (free c.before.before.before).kept in (kept, rw c.rows_of_lem.ensures (rows-near kept))
 
-returns-2 : tie.Need-returns-2
+returns-2 : tie.Need-returns
 returns-2 c =
-    let p = c.before.before.before.before in
+    let p = c.before.before.before.before.before.before in
     let a = p.before.before.args in
-    verdict-made panel a.closed a.coordinates.now a.width (free c.before.before) (c.rows-refusal.ensures ∙ ap (rows_refusal p.prepare.result.joins) c.before.rows_of_lem.ensures)
+    verdict-made panel a.closed a.coordinates.now a.width (free c.before.before.before.before) (c.rows_refusal.ensures ∙ ap (rows_refusal p.prepare-route.result.joins) c.before.rows_of_lem.ensures)
 
-pub refusal-spec : {M : Type 1} → statement M
-refusal-spec = tie.close (tie.spec (λ c κs. search rules) (λ c κs. rw c.panel.ensures roomy) returns (λ c κs. (free c).kept) rows-refusal-requires returns-2)
+pub refusal_spec : {M : Type 1} → statement M
+refusal_spec = tie.close (tie.spec (λ c κs. search rules) (λ c κs. rw c.panel.ensures roomy) returns (λ c κs. (free c.before.before).kept) rows-refusal-requires returns-2)

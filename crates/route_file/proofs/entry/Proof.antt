@@ -12,43 +12,43 @@ use Rattle.route_file.proofs.Answering.{entry-nine, entry-none, entry_found}
 use Rattle.route_file.proofs.entry.Statement.{statement}
 use Rattle.route_file.proofs.entry.Tie as tie
 
-is-formed-requires : tie.Need-is-formed-requires
+is-formed-requires : tie.Need-is_formed-requires
 is-formed-requires c κs = search rules
 
-returns : tie.Need-returns
-returns c = entry-nine _ _ (sym c.before.is-formed.ensures ∙ not-true _ c.if1.true)
+returns : tie.Need-returns-then-not-is_formed
+returns c = entry-nine _ _ (sym c.before.is_formed.ensures ∙ not-true _ c.if-not-is_formed.true)
 
-passed : (c : tie.Else1) → is_formed c.before.before.before.args.file.now ≡ true
-passed c = sym c.before.is-formed.ensures ∙ not-false _ c.if1.false
+passed : (c : tie.Else-not-is_formed) → is_formed c.before.before.before.args.file.now ≡ true
+passed c = sym c.before.is_formed.ensures ∙ not-false _ c.if-not-is_formed.false
 
-formed : (c : tie.Else1) → Formed c.before.before.before.args.file.now
+formed : (c : tie.Else-not-is_formed) → Formed c.before.before.before.args.file.now
 formed c = true-formed _ (passed c)
 
-count-of-requires : tie.Need-count-of-requires
+count-of-requires : tie.Need-count_of-requires
 count-of-requires c κs = (formed c).header
 
-returns-2 : tie.Need-returns-2
-returns-2 c = entry-none _ _ (passed c.before.before) (rw c.before.count_of.ensures at c.if2.true)
+returns-2 : tie.Need-returns-then-count_of-k
+returns-2 c = entry-none _ _ (passed c.before.before) (rw c.before.count_of.ensures at c.if-count_of-k.true)
 
-entry-at-requires : tie.Need-entry-at-requires
-entry-at-requires c κs = omega (arith, (formed c.before.before).entries, c.before.count_of.ensures, c.if2.false)
+entry-at-requires : tie.Need-entry_at-entry-requires
+entry-at-requires c κs = omega (arith, (formed c.before.before).entries, c.before.count_of.ensures, c.if-count_of-k.false)
 
-cast-t6 : tie.Need-overflow-cast-t6
+cast-t6 : tie.Need-overflow_cast-result
 cast-t6 c = search rules
 
-cast-t7 : tie.Need-overflow-cast-t7
+cast-t7 : tie.Need-overflow_cast-result-2
 cast-t7 c = search rules
 
 -- the width, in its bits
-width : (c : tie.After-entry-at) → let w = c.entry_at.result.width in Hold w (pos w) 65535
-width c = hold {z = pos c.entry_at.result.width} (record { bound = search rules }) tt
+width : (c : tie.After-entry_at-entry) → let w = c.entry_at-entry.result.width in Hold w (pos w) 65535
+width c = hold {z = pos c.entry_at-entry.result.width} (record { bound = search rules }) tt
 
-returns-3 : tie.Need-returns-3
+returns-3 : tie.Need-returns
 returns-3 c =
     let e = c.before.before.before in
     let p = e.before.before in
     let a = p.before.before.before.before.args in
-    rw ((width e).is, e.entry_at.ensures) (entry_found a.file.now a.k (passed p.before) (rw p.count_of.ensures at e.before.if2.false))
+    rw ((width e).is, e.entry_at-entry.ensures) (entry_found a.file.now a.k (passed p.before) (rw p.count_of.ensures at e.before.if-count_of-k.false))
 
 pub entry_spec : {M : Type 1} → statement M
 entry_spec =

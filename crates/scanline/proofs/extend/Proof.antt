@@ -11,23 +11,23 @@ use Rattle.scanline.proofs.extend.Statement.{statement}
 use Rattle.scanline.proofs.extend.Tie as tie
 
 -- what is tested
-tested : (c : tie.After-extend-refusal) → c.extend-refusal.result ≡ extend_refusal corner_limit c.before.args.span c.before.args.column
+tested : (c : tie.After-extend_refusal-refusal) → c.extend_refusal-refusal.result ≡ extend_refusal corner_limit c.before.args.span c.before.args.column
 tested c = cc (to_z-of_z c.before.ranges.column)
 
 extend-requires : tie.Need-extend-requires
 extend-requires c κs =
     let s = c.before.before in
-    rw (to_z-of_z s.ranges.column) (within_more ((extend-none corner_limit s.args.span s.args.column).0 (sym (tested c.before) ∙ c.if1.true)).1.1 (lit≤ tt))
+    rw (to_z-of_z s.ranges.column) (within_more ((extend-none corner_limit s.args.span s.args.column).0 (sym (tested c.before) ∙ c.if-refusal-eq0.true)).1.1 (lit≤ tt))
 
-returns : tie.Need-returns
+returns : tie.Need-returns-then-refusal-eq0
 unfolding extend_answer
 returns c =
     let t = c.before in
-    simp (sym (tested t.before) ∙ t.if1.true) (cc (to_z-of_z t.before.before.ranges.column))
+    simp (sym (tested t.before) ∙ t.if-refusal-eq0.true) (cc (to_z-of_z t.before.before.ranges.column))
 
-returns-2 : tie.Need-returns-2
+returns-2 : tie.Need-returns
 unfolding extend_answer
-returns-2 c = rw (← tested c.before) (simp (ne_eqb c.before.extend-refusal.result 0 c.if1.false))
+returns-2 c = rw (← tested c.before) (simp (ne_eqb c.before.extend_refusal-refusal.result 0 c.if-refusal-eq0.false))
 
-pub extend-spec : {M : Type 1} → statement M
-extend-spec = tie.close (tie.spec (λ c κs. search rules) extend-requires returns returns-2)
+pub extend_spec : {M : Type 1} → statement M
+extend_spec = tie.close (tie.spec (λ c κs. search rules) extend-requires returns returns-2)

@@ -11,5 +11,5 @@ returns c =
     let s = c.before.before.before.before.before.before in
     cc (to_z-of_z {w = w64} {z = s.args.span.row} (search rules), to_z-of_z s.ranges.column)
 
-pub extend-refusal-spec : {M : Type 1} → statement M
-extend-refusal-spec = tie.close (tie.spec (λ c κs. search rules) (λ c κs. search rules) (λ c κs. search rules) (λ c κs. search rules) (λ c κs. search rules) returns)
+pub extend_refusal_spec : {M : Type 1} → statement M
+extend_refusal_spec = tie.close (tie.spec (λ c κs. search rules) (λ c κs. search rules) (λ c κs. search rules) (λ c κs. search rules) (λ c κs. search rules) returns)

@@ -15,7 +15,7 @@ returns c =
       bits-eq {x = s.span.row} {y = s.other.row} (search rules) (search rules),
     )
 
-pub join-refusal-spec : {M : Type 1} → statement M
-join-refusal-spec =
+pub join_refusal_spec : {M : Type 1} → statement M
+join_refusal_spec =
     tie.close
     (tie.spec (λ c κs. search rules) (λ c κs. search rules) (λ c κs. search rules) (λ c κs. search rules) (λ c κs. search rules) (λ c κs. search rules) returns)

@@ -12,17 +12,17 @@ use Rattle.scanline.proofs.meet.Tie as tie
 meet-requires : tie.Need-meet-requires
 meet-requires c κs =
     let a = c.before.before.args in
-    line-near-more ((meet-none corner_limit a.span a.line).0 (sym c.before.meet-refusal.ensures ∙ c.if1.true)).0 (lit≤ tt)
+    line-near-more ((meet-none corner_limit a.span a.line).0 (sym c.before.meet_refusal-refusal.ensures ∙ c.if-refusal-eq0.true)).0 (lit≤ tt)
 
-returns : tie.Need-returns
+returns : tie.Need-returns-then-refusal-eq0
 unfolding meet_answer
-returns c = let t = c.before in simp (sym t.before.meet-refusal.ensures ∙ t.if1.true, c.meet.ensures)
+returns c = let t = c.before in simp (sym t.before.meet_refusal-refusal.ensures ∙ t.if-refusal-eq0.true, c.meet.ensures)
 
-returns-2 : tie.Need-returns-2
+returns-2 : tie.Need-returns
 unfolding meet_answer
 returns-2 c =
-    let e = c.before.meet-refusal in
-    rw (← e.ensures) (simp (ne_eqb e.result 0 c.if1.false))
+    let e = c.before.meet_refusal-refusal in
+    rw (← e.ensures) (simp (ne_eqb e.result 0 c.if-refusal-eq0.false))
 
-pub meet-spec : {M : Type 1} → statement M
-meet-spec = tie.close (tie.spec (λ c κs. search rules) meet-requires returns returns-2)
+pub meet_spec : {M : Type 1} → statement M
+meet_spec = tie.close (tie.spec (λ c κs. search rules) meet-requires returns returns-2)

@@ -9,5 +9,5 @@ returns : tie.Need-returns
 unfolding span_refusal
 returns c = cc (to_z-of_z {w = w64} {z = c.before.before.before.before.args.span.row} (search rules))
 
-pub span-refusal-spec : {M : Type 1} → statement M
-span-refusal-spec = tie.close (tie.spec (λ c κs. search rules) (λ c κs. search rules) (λ c κs. search rules) returns)
+pub span_refusal_spec : {M : Type 1} → statement M
+span_refusal_spec = tie.close (tie.spec (λ c κs. search rules) (λ c κs. search rules) (λ c κs. search rules) returns)

@@ -3,31 +3,31 @@ use borrow.Author.Rules.{rules}
 use Rattle.test_in_place.proofs.walk.Statement.{statement}
 use Rattle.test_in_place.proofs.walk.Tie as tie
 
-abbrev invariant-loop : tie.invariant-loop
+abbrev invariant-loop : tie.invariant-loop-left
 invariant-loop coordinates row steps walker₀ board₀ left₀ walker board left = Unit {0}
 
-abbrev decreases-loop : tie.decreases-loop
+abbrev decreases-loop : tie.decreases-loop-left
 decreases-loop coordinates row steps walker₀ board₀ left₀ walker board left = left
 
 fresh-requires : tie.Need-fresh-requires invariant-loop decreases-loop
 fresh-requires c κs = tt
 
-loop-holds : tie.Need-loop-init invariant-loop decreases-loop
+loop-holds : tie.Need-loop-left-init invariant-loop decreases-loop
 loop-holds c = tt
 
-step-requires : tie.Need-step-requires invariant-loop decreases-loop
+step-requires : tie.Need-step-stepped-requires invariant-loop decreases-loop
 step-requires c κs = tt
 
-show-requires : tie.Need-show-requires invariant-loop decreases-loop
+show-requires : tie.Need-show-board-requires invariant-loop decreases-loop
 show-requires c κs = tt
 
-sub-left : tie.Need-overflow-sub-left invariant-loop decreases-loop
+sub-left : tie.Need-overflow_sub-left invariant-loop decreases-loop
 sub-left c = search rules
 
-loop-less : tie.Need-loop-smaller invariant-loop decreases-loop
+loop-less : tie.Need-loop-left-smaller invariant-loop decreases-loop
 loop-less c = search rules
 
-loop-again : tie.Need-loop-preserved invariant-loop decreases-loop
+loop-again : tie.Need-loop-left-preserved invariant-loop decreases-loop
 loop-again c = tt
 
 list-requires : tie.Need-list-requires invariant-loop decreases-loop
@@ -36,8 +36,8 @@ list-requires c κs = tt
 returns : tie.Need-returns invariant-loop decreases-loop
 returns c = tt
 
-pub walk-spec : {M : Type 1} → statement M
-walk-spec =
+pub walk_spec : {M : Type 1} → statement M
+walk_spec =
     tie.close
     (tie.spec
     invariant-loop

@@ -12,12 +12,12 @@ use Rattle.test_joins.proofs.join_at.Statement.{statement}
 use Rattle.test_joins.proofs.join_at.Tie as tie
 
 -- the position's number, and the two lines behind it
-position : (c : tie.After-number-at) → c.number_at.result ≡ number_at c.before.before.before.before.before.before.args.s.now (next_place (next_place c.before.before.before.before.before.before.args.at))
+position : (c : tie.After-number_at-position) → c.number_at-position.result ≡ number_at c.before.before.before.before.before.before.args.s.now (next_place (next_place c.before.before.before.before.before.before.args.at))
 position c = cc
 
 -- its value is what the call is given
-held : (c : tie.After-number-at) → to_z w64 (of_z w64 c.number_at.result.value) ≡ c.number_at.result.value
-held c = to_z-of_z {w = w64} {z = c.number_at.result.value} (search (rules, c.number_at.type-inv.1))
+held : (c : tie.After-number_at-position) → to_z w64 (of_z w64 c.number_at-position.result.value) ≡ c.number_at-position.result.value
+held c = to_z-of_z {w = w64} {z = c.number_at-position.result.value} (search (rules, c.number_at-position.type-inv.1))
 
 returns : tie.Need-returns
 unfolding join_at
@@ -30,16 +30,16 @@ returns c =
     let k = p.before.before.before in
     let s = k.before.before.before.args.s.now in
     let number = position p in
-    let first = a.line_at_lem.ensures ∙ ap (line_at s) (a.before.after3.ensures ∙ ap (λ n. next_place n.next) number) in
-    let second = b.line-at2.ensures ∙ ap (λ l. line_at s l.next) first in
+    let first = a.line_at_lem.ensures ∙ ap (line_at s) (a.before.after-3.ensures ∙ ap (λ n. next_place n.next) number) in
+    let second = b.line_at-second.ensures ∙ ap (λ l. line_at s l.next) first in
     simp (
-      k.kind-of.ensures ∙ ap kind_of k.before.byte_at.ensures,
-      corners.before.corners-of.ensures ∙ ap (λ l. corners_of l.line.start l.line.end) first,
-      corners.corners-of2.ensures ∙ ap (λ l. corners_of l.line.start l.line.end) second,
-      crossings.no-crossings.ensures,
+      k.kind_of-kind.ensures ∙ ap kind_of k.before.byte_at.ensures,
+      corners.before.corners_of.ensures ∙ ap (λ l. corners_of l.line.start l.line.end) first,
+      corners.corners_of-2.ensures ∙ ap (λ l. corners_of l.line.start l.line.end) second,
+      crossings.no_crossings.ensures,
       c.size.ensures ∙ ap nat_abs (held p) ∙ ap (λ n. nat_abs n.value) number,
       second,
     )
 
-pub join-at-spec : {M : Type 1} → statement M
-join-at-spec = tie.close (tie.spec (λ c κs. search rules) (λ c κs. search rules) (λ c κs. search rules) (λ c κs. search rules) (λ c κs. search rules) (λ c κs. search rules) (λ c κs. search rules) (λ c κs. search rules) (λ c κs. search rules) (λ c κs. search rules) (λ c κs. search rules) (λ c κs. search rules) returns)
+pub join_at_spec : {M : Type 1} → statement M
+join_at_spec = tie.close (tie.spec (λ c κs. search rules) (λ c κs. search rules) (λ c κs. search rules) (λ c κs. search rules) (λ c κs. search rules) (λ c κs. search rules) (λ c κs. search rules) (λ c κs. search rules) (λ c κs. search rules) (λ c κs. search rules) (λ c κs. search rules) (λ c κs. search rules) returns)

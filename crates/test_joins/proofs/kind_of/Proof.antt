@@ -3,39 +3,39 @@ use Rattle.test_joins.specs.Joins.{kind_of}
 use Rattle.test_joins.proofs.kind_of.Statement.{statement}
 use Rattle.test_joins.proofs.kind_of.Tie as tie
 
-returns : tie.Need-returns
+returns : tie.Need-returns-in-48
 unfolding kind_of
-returns c = rw c.match.keys1
+returns c = rw c.in_default.keys1
 
-returns-2 : tie.Need-returns-2
+returns-2 : tie.Need-returns-in-49
 unfolding kind_of
-returns-2 c = rw c.match.keys2
+returns-2 c = rw c.in_default.keys2
 
-returns-3 : tie.Need-returns-3
+returns-3 : tie.Need-returns-in-50
 unfolding kind_of
-returns-3 c = rw c.match.keys3
+returns-3 c = rw c.in_default.keys3
 
-returns-4 : tie.Need-returns-4
+returns-4 : tie.Need-returns-in-51
 unfolding kind_of
-returns-4 c = rw c.match.keys4
+returns-4 c = rw c.in_default.keys4
 
-returns-5 : tie.Need-returns-5
+returns-5 : tie.Need-returns-in-52
 unfolding kind_of
-returns-5 c = rw c.match.keys5
+returns-5 c = rw c.in_default.keys5
 
-returns-6 : tie.Need-returns-6
+returns-6 : tie.Need-returns-in-53
 unfolding kind_of
-returns-6 c = rw c.match.keys6
+returns-6 c = rw c.in_default.keys6
 
-returns-7 : tie.Need-returns-7
+returns-7 : tie.Need-returns-in-54
 unfolding kind_of
-returns-7 c = rw c.match.keys7
+returns-7 c = rw c.in_default.keys7
 
-returns-8 : tie.Need-returns-8
+returns-8 : tie.Need-returns-in_default
 unfolding kind_of
 returns-8 c =
     let d = c.before.args.digit in
-    let n = c.match.rest in
+    let n = c.in_default.rest in
     simp (
       ne_eqb d 48 n.0.0.0.0.0.0.1,
       ne_eqb d 49 n.0.0.0.0.0.1,
@@ -46,6 +46,6 @@ returns-8 c =
       ne_eqb d 54 n.1,
     )
 
-pub kind-of-spec : {M : Type 1} → statement M
-kind-of-spec =
+pub kind_of_spec : {M : Type 1} → statement M
+kind_of_spec =
     tie.close (tie.spec returns returns-2 returns-3 returns-4 returns-5 returns-6 returns-7 returns-8)

@@ -16,43 +16,43 @@ use Rattle.test_numbers.proofs.number_at.Tie as tie
 held : (s : List ℕ) (at : ℕ) {d : Digits} → d ≡ digits_at s at → Hold d.value (pos d.value) (10 ^ 18)
 held s at {d} e = hold {z = pos d.value} (record { bound = rw e (omega (arith, small s at)) }) tt
 
-byte-at-requires : tie.Need-byte-at-requires
+byte-at-requires : tie.Need-byte_at-requires
 byte-at-requires c κs = tt
 
-add-digits-at : tie.Need-overflow-add-digits-at
+add-digits-at : tie.Need-overflow_add-at
 add-digits-at c = let a = c.before.before.before.args in omega (arith, inside a.s.now a.at (omega arith))
 
-digits-at-requires : tie.Need-digits-at-requires
+digits-at-requires : tie.Need-digits_at-d-requires
 digits-at-requires c κs = tt
 
-cast-t8 : tie.Need-overflow-cast-t8
-cast-t8 c = fits (10 ^ 18) (held _ _ c.before.digits-at.ensures).small tt
+cast-t8 : tie.Need-overflow_cast-result
+cast-t8 c = fits (10 ^ 18) (held _ _ c.before.digits_at-d.ensures).small tt
 
-sub-t9 : tie.Need-overflow-sub-t9
-sub-t9 c = fits_neg (held _ _ c.before.digits-at.ensures) tt
+sub-t9 : tie.Need-overflow_sub-result
+sub-t9 c = fits_neg (held _ _ c.before.digits_at-d.ensures) tt
 
-returns : tie.Need-returns
+returns : tie.Need-returns-then-byte_at-eq45
 unfolding number_at
 returns c =
-    let d = c.before.digits-at.ensures in
+    let d = c.before.digits_at-d.ensures in
     let t = c.before.before in
-    rw ((hold-neg (held _ _ d) tt).is, eq-eqb _ _ (sym t.before.byte_at.ensures ∙ t.if1.true), ← d)
+    rw ((hold-neg (held _ _ d) tt).is, eq-eqb _ _ (sym t.before.byte_at.ensures ∙ t.if-byte_at-eq45.true), ← d)
 
-digits-at-requires-2 : tie.Need-digits-at-requires-2
+digits-at-requires-2 : tie.Need-digits_at-d-requires-2
 digits-at-requires-2 c κs = tt
 
-cast-t10 : tie.Need-overflow-cast-t10
-cast-t10 c = fits (10 ^ 18) (held _ _ c.before.digits-at2.ensures).small tt
+cast-t10 : tie.Need-overflow_cast-result-2
+cast-t10 c = fits (10 ^ 18) (held _ _ c.before.digits_at-d-2.ensures).small tt
 
-returns-2 : tie.Need-returns-2
+returns-2 : tie.Need-returns
 unfolding number_at
 returns-2 c =
-    let d = c.before.digits-at2.ensures in
+    let d = c.before.digits_at-d-2.ensures in
     let t = c.before.before in
-    rw ((held _ _ d).is, ne_eqb _ _ (λ e. t.if1.false (t.before.byte_at.ensures ∙ e)), ← d)
+    rw ((held _ _ d).is, ne_eqb _ _ (λ e. t.if-byte_at-eq45.false (t.before.byte_at.ensures ∙ e)), ← d)
 
-pub number-at-spec : {M : Type 1} → statement M
-number-at-spec =
+pub number_at_spec : {M : Type 1} → statement M
+number_at_spec =
     tie.close
     (tie.spec
     byte-at-requires

@@ -4,16 +4,16 @@ use Rattle.test_text.specs.Questions.{next_place}
 use Rattle.test_text.proofs.after.Statement.{statement}
 use Rattle.test_text.proofs.after.Tie as tie
 
-add-result : tie.Need-overflow-add-result
+add-result : tie.Need-overflow_add-result
 add-result c = search rules
 
-returns : tie.Need-returns
+returns : tie.Need-returns-then-at-lt4000000
 unfolding next_place
-returns c = simp (lt-ltb _ _ c.if1.true)
+returns c = simp (lt-ltb _ _ c.if-at-lt4000000.true)
 
-returns-2 : tie.Need-returns-2
+returns-2 : tie.Need-returns-else-at-lt4000000
 unfolding next_place
-returns-2 c = simp (le-ltb _ _ c.if1.false)
+returns-2 c = simp (le-ltb _ _ c.if-at-lt4000000.false)
 
-pub after-spec : {M : Type 1} → statement M
-after-spec = tie.close (tie.spec add-result returns returns-2)
+pub after_spec : {M : Type 1} → statement M
+after_spec = tie.close (tie.spec add-result returns returns-2)

@@ -15,9 +15,9 @@ unfolding parallels_refusal
 returns c =
     let a = c.before.before.before.before.args in
     let ps = parallels_of a.line a.width a.offset in
-    let r = c.before.before.list.ensures in
+    let r = c.before.before.list-listed.ensures in
     rw (r.0, r.1, to_z-of_z c.before.before.before.before.ranges.width, line-starts a.line a.width a.offset)
     (each _ 4 (length ps) (lit< tt) (numbers-length ps), refl)
 
-pub list-parallels-spec : {M : Type 1} → statement M
-list-parallels-spec = tie.close (tie.spec (λ c κs. search rules) (λ c. search rules) returns)
+pub list_parallels_spec : {M : Type 1} → statement M
+list_parallels_spec = tie.close (tie.spec (λ c κs. search rules) (λ c. search rules) returns)

@@ -14,9 +14,9 @@ unfolding points_refusal
 returns c =
     let a = c.before.before.before.before.args in
     let qs = thick_points_of a.line a.width in
-    let r = c.before.before.list.ensures in
+    let r = c.before.before.list-listed.ensures in
     rw (r.0, r.1, to_z-of_z c.before.before.before.before.ranges.width, line-points a.line a.width)
     (each _ 2 (length qs) (lit< tt) (points-length qs), refl)
 
-pub list-thick-points-spec : {M : Type 1} → statement M
-list-thick-points-spec = tie.close (tie.spec (λ c κs. search rules) (λ c. search rules) returns)
+pub list_thick_points_spec : {M : Type 1} → statement M
+list_thick_points_spec = tie.close (tie.spec (λ c κs. search rules) (λ c. search rules) returns)

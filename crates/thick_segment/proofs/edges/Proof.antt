@@ -7,16 +7,16 @@ use Rattle.thick_segment.specs.Answers.{edges_answer}
 use Rattle.thick_segment.proofs.edges.Statement.{statement}
 use Rattle.thick_segment.proofs.edges.Tie as tie
 
-inside : (c : tie.Then1) → is_segment_near corner_limit c.before.before.args.segment ≡ true
-inside c = sym c.before.is-segment-near.ensures ∙ c.if1.true
+inside : (c : tie.Then-is_segment_near) → is_segment_near corner_limit c.before.before.args.segment ≡ true
+inside c = sym c.before.is_segment_near.ensures ∙ c.if-is_segment_near.true
 
-returns : tie.Need-returns
+returns : tie.Need-returns-then-is_segment_near
 unfolding edges_answer
 returns c = simp (inside c.before, c.edges.ensures)
 
-returns-2 : tie.Need-returns-2
+returns-2 : tie.Need-returns
 unfolding edges_answer
-returns-2 c = simp (sym c.before.before.is-segment-near.ensures ∙ c.before.if1.false, c.far-bend.ensures)
+returns-2 c = simp (sym c.before.before.is_segment_near.ensures ∙ c.before.if-is_segment_near.false, c.far_bend.ensures)
 
 pub edges_spec : {M : Type 1} → statement M
 edges_spec = tie.close (tie.spec (λ c κs. search rules) (λ c κs. search rules) returns (λ c κs. search rules) returns-2)

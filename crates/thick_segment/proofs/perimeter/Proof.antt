@@ -8,19 +8,19 @@ use Rattle.thick_segment.proofs.Refused.{segment-room}
 use Rattle.thick_segment.proofs.perimeter.Statement.{statement}
 use Rattle.thick_segment.proofs.perimeter.Tie as tie
 
-inside : (c : tie.Then1) → is_segment_near corner_limit c.before.before.args.segment ≡ true
-inside c = sym c.before.is-segment-near.ensures ∙ c.if1.true
+inside : (c : tie.Then-is_segment_near) → is_segment_near corner_limit c.before.before.args.segment ≡ true
+inside c = sym c.before.is_segment_near.ensures ∙ c.if-is_segment_near.true
 
 perimeter-requires : tie.Need-perimeter-requires
 perimeter-requires c κs = segment-room c.before.before.args.segment (inside c)
 
-returns : tie.Need-returns
+returns : tie.Need-returns-then-is_segment_near
 unfolding perimeter_answer
 returns c = simp (inside c.before, c.perimeter.ensures)
 
-returns-2 : tie.Need-returns-2
+returns-2 : tie.Need-returns
 unfolding perimeter_answer rows_of
-returns-2 c = simp (sym c.before.is-segment-near.ensures ∙ c.if1.false)
+returns-2 c = simp (sym c.before.is_segment_near.ensures ∙ c.if-is_segment_near.false)
 
-pub perimeter-spec : {M : Type 1} → statement M
-perimeter-spec = tie.close (tie.spec (λ c κs. search rules) perimeter-requires returns returns-2)
+pub perimeter_spec : {M : Type 1} → statement M
+perimeter_spec = tie.close (tie.spec (λ c κs. search rules) perimeter-requires returns returns-2)

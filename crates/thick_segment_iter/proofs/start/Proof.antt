@@ -10,16 +10,16 @@ use Rattle.thick_segment_iter.specs.Walks.{open_start}
 use Rattle.thick_segment_iter.proofs.start.Statement.{statement}
 use Rattle.thick_segment_iter.proofs.start.Tie as tie
 
-told : (c : tie.After-refusal) → route_refusal point_limit false c.before.args.coordinates.now c.before.args.width ≡ c.refusal.result
-told c = sym (rw (to_z-of_z c.before.ranges.width) at c.refusal.ensures)
+told : (c : tie.After-refusal-number) → route_refusal point_limit false c.before.args.coordinates.now c.before.args.width ≡ c.refusal-number.result
+told c = sym (rw (to_z-of_z c.before.ranges.width) at c.refusal-number.ensures)
 
-returns : tie.Need-returns
+returns : tie.Need-returns-then-number-eq0
 unfolding open_start
-returns c = rw (told c.before, eq-eqb c.before.refusal.result 0 c.if1.true, to_z-of_z c.before.before.ranges.width)
+returns c = rw (told c.before, eq-eqb c.before.refusal-number.result 0 c.if-number-eq0.true, to_z-of_z c.before.before.ranges.width)
 
-returns-2 : tie.Need-returns-2
+returns-2 : tie.Need-returns
 unfolding open_start
-returns-2 c = rw (told c.before, ne_eqb c.before.refusal.result 0 c.if1.false)
+returns-2 c = rw (told c.before, ne_eqb c.before.refusal-number.result 0 c.if-number-eq0.false)
 
 pub start_spec : {M : Type 1} → statement M
 start_spec = tie.close (tie.spec (λ c κs. search rules) returns returns-2)

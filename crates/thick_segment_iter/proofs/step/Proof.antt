@@ -12,19 +12,19 @@ use Rattle.thick_segment_iter.proofs.step.Statement.{statement}
 use Rattle.thick_segment_iter.proofs.step.Tie as tie
 
 -- the width is what the call is given, and the limits are the panel's
-held : (c : tie.After-step-at) → let w = c.before.before.before.args.walk.width in to_z w64 (of_z w64 w) ≡ w
+held : (c : tie.After-step_at-stepped) → let w = c.before.before.before.args.walk.width in to_z w64 (of_z w64 w) ≡ w
 held c = to_z-of_z {w = w64} {z = c.before.before.before.args.walk.width} (search rules)
 
-answered : (c : tie.After-step-at) → let a = c.before.before.before.args in step_values c.step-at.result.step ≡ open_step panel a.coordinates.now a.walk
+answered : (c : tie.After-step_at-stepped) → let a = c.before.before.before.args in step_values c.step_at-stepped.result.step ≡ open_step panel a.coordinates.now a.walk
 unfolding open_step
-answered c = rw (held c, c.before.panel.ensures) at c.step-at.ensures.0
+answered c = rw (held c, c.before.panel.ensures) at c.step_at-stepped.ensures.0
 
-step-at-requires : tie.Need-step-at-requires
+step-at-requires : tie.Need-step_at-stepped-requires
 step-at-requires c κs = rw c.panel.ensures (record { point_room = lit≤ tt; corner_room = lit≤ tt })
 
 returns : tie.Need-returns
 unfolding after_open
-returns c = (answered c, rw (held c, c.step-at.ensures.1, answered c))
+returns c = (answered c, rw (held c, c.step_at-stepped.ensures.1, answered c))
 
 pub step_spec : {M : Type 1} → statement M
 step_spec = tie.close (tie.spec (λ c κs. search rules) step-at-requires returns)

@@ -15,9 +15,9 @@ use Rattle.walks_in_place.specs.contracts.step_closed as in_place
 use Rattle.walks_in_place.proofs.step_closed.Statement as stated
 use Rattle.walks_in_place.proofs.step_closed.Code as code
 
-pub step-closed-spec : {M : Type 1} → stated.statement M
+pub step_closed_spec : {M : Type 1} → stated.statement M
 unfolding code.routine tables_of
-step-closed-spec 𝓤 𝓛 𝓜 𝓡 =
+step_closed_spec 𝓤 𝓛 𝓜 𝓡 =
     entered 𝓤 𝓛.H (triple_of 𝓛 in_place.signature (in_place.spec 𝓛 𝓜.mem 𝓡.run))
     (tables 𝓤 𝓛.H 𝓜 𝓡 code.env).C (tables 𝓤 𝓛.H 𝓜 𝓡 code.env).Λ key.name code.function (code.unfolded 𝓤 𝓛.H 𝓜 𝓡)
     (weaken 𝓛 in_place.ended (promised closed-walker 𝓛) (λ κs a g r e. (in_place.clauses 𝓛 𝓜.mem 𝓡.run κs a).ensures g r e)

@@ -15,9 +15,9 @@ use Rattle.walks_in_place.specs.contracts.step_open as in_place
 use Rattle.walks_in_place.proofs.step_open.Statement as stated
 use Rattle.walks_in_place.proofs.step_open.Code as code
 
-pub step-open-spec : {M : Type 1} → stated.statement M
+pub step_open_spec : {M : Type 1} → stated.statement M
 unfolding code.routine tables_of
-step-open-spec 𝓤 𝓛 𝓜 𝓡 =
+step_open_spec 𝓤 𝓛 𝓜 𝓡 =
     entered 𝓤 𝓛.H (triple_of 𝓛 in_place.signature (in_place.spec 𝓛 𝓜.mem 𝓡.run))
     (tables 𝓤 𝓛.H 𝓜 𝓡 code.env).C (tables 𝓤 𝓛.H 𝓜 𝓡 code.env).Λ key.name code.function (code.unfolded 𝓤 𝓛.H 𝓜 𝓡)
     (weaken 𝓛 in_place.ended (promised open-walker 𝓛) (λ κs a g r e. (in_place.clauses 𝓛 𝓜.mem 𝓡.run κs a).ensures g r e)

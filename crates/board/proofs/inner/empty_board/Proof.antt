@@ -7,5 +7,5 @@ returns : tie.Need-returns
 unfolding board_of padded
 returns c = rw (to_z-of_z c.ranges.row)
 
-pub empty-board-spec : {M : Type 1} → statement M
-empty-board-spec = tie.close (tie.spec returns)
+pub empty_board_spec : {M : Type 1} → statement M
+empty_board_spec = tie.close (tie.spec returns)

@@ -15,10 +15,10 @@ use Rattle.board.proofs.Fronts.{live_more, live-none, live-long, filling-turn, f
 use Rattle.board.proofs.inner.filled.Statement.{statement}
 use Rattle.board.proofs.inner.filled.Tie as tie
 
-abbrev invariant-loop : tie.invariant-loop
+abbrev invariant-loop : tie.invariant-loop-next
 invariant-loop board n runs₀ count₀ next₀ runs count next = (next ≤ n) × Filling runs count (drop next (live board)) (take count₀ runs₀ ++ drop next₀ (live board))
 
-abbrev decreases-loop : tie.decreases-loop
+abbrev decreases-loop : tie.decreases-loop-next
 decreases-loop board n runs₀ count₀ next₀ runs count next = n - next
 
 -- ---- the run is put after the front; what is left then is the board's
@@ -30,16 +30,16 @@ module _ (s : tie.Start invariant-loop decreases-loop) where
   room : s.args.front.count < 32
   room = omega (arith, filling-length s.pre.1.0.filling, s.pre.1.1)
 
-  begun : let f = s.args.front in Filling (set f.runs f.count f.run) (f.count + 1) (drop f.next (live s.args.t1)) (whole_of f (live s.args.t1))
+  begun : let f = s.args.front in Filling (set f.runs-1 f.count f.run-1) (f.count + 1) (drop f.next (live s.args.t1)) (whole_of f (live s.args.t1))
   begun = filling-turn s.pre.1.0.filling room
 
   -- the whole answer again, from there
-  again : let f = s.args.front in take (f.count + 1) (set f.runs f.count f.run) ++ drop f.next (live s.args.t1) ≡ whole_of f (live s.args.t1)
+  again : let f = s.args.front in take (f.count + 1) (set f.runs-1 f.count f.run-1) ++ drop f.next (live s.args.t1) ≡ whole_of f (live s.args.t1)
   again = filling-all begun
 
 -- ---- in a turn: the next run of the answer is the board's
 
-module _ (c : tie.In-loop invariant-loop decreases-loop) where
+module _ (c : tie.In-loop-next invariant-loop decreases-loop) where
   abbrev start : tie.Start invariant-loop decreases-loop
   start = c.before.before.before.before
 
@@ -47,10 +47,10 @@ module _ (c : tie.In-loop invariant-loop decreases-loop) where
       Filling l.runs l.count (get_or b.runs l.next no_run ∷ drop (l.next + 1) (live b)) (take (f.count + 1) (set f.runs f.count f.run) ++ drop f.next (live b))
   turn = rw (live_more start.args.t1 c.before.loop.next (omega arith) (omega (arith, long start))) at c.before.loop.invariant.1
 
-  below : c.before.loop.count < 32
+  below : c.before.loop-next.count < 32
   below = omega (arith, filling-length (rw (again start) at turn), start.pre.1.1)
 
-loop-holds : tie.Need-loop-init invariant-loop decreases-loop
+loop-holds : tie.Need-loop-next-init invariant-loop decreases-loop
 loop-holds c =
     let s = c.before.before in
     (omega (arith, s.requires.1.0.inside, live-long s.args.t1 (omega (arith, long s))), rw (again s) (begun s))
@@ -60,11 +60,11 @@ unfolding board_of
 returns c =
     let l = c.before.before in
     let s = l.before.before.before in
-    let done = filling-done (rw (live-none s.args.t1 l.loop.next (omega arith), again s) at l.loop.invariant.1) in
+    let done = filling-done (rw (live-none s.args.t1 l.loop-next.next (omega arith), again s) at l.loop-next.invariant.1) in
     cc (to_z-of_z {w = w64} {z = s.args.t1.row} (search rules), done.0, done.1)
 
-pub filled-spec : {M : Type 1} → statement M
-filled-spec =
+pub filled_spec : {M : Type 1} → statement M
+filled_spec =
     tie.close
     (tie.spec
     invariant-loop

@@ -7,17 +7,17 @@ use Rattle.board.specs.Boards.{is_sound}
 use Rattle.board.proofs.inner.is_sound.Statement.{statement}
 use Rattle.board.proofs.inner.is_sound.Tie as tie
 
-returns : tie.Need-returns
+returns : tie.Need-returns-then-board-le-BOARD_RUNS
 unfolding is_sound
 returns c =
     let t = c.before.before.before.before in
     let b = t.before.before.args.board in
-    rw (le-leb b.count board_runs t.if1.true) (cc (to_z-of_z {w = w64} {z = b.row} (search rules)))
+    rw (le-leb b.count board_runs t.if-board-le-BOARD_RUNS.true) (cc (to_z-of_z {w = w64} {z = b.row} (search rules)))
 
-returns-2 : tie.Need-returns-2
+returns-2 : tie.Need-returns
 unfolding is_sound
-returns-2 c = rw (lt-leb c.before.before.args.board.count board_runs c.if1.false)
+returns-2 c = rw (lt-leb c.before.before.args.board.count board_runs c.if-board-le-BOARD_RUNS.false)
 
-pub is-sound-spec : {M : Type 1} → statement M
-is-sound-spec =
+pub is_sound_spec : {M : Type 1} → statement M
+is_sound_spec =
     tie.close (tie.spec (λ c κs. search rules) (λ c κs. search rules) (λ c κs. search rules) returns returns-2)

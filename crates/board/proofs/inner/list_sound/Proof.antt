@@ -19,22 +19,22 @@ module _ (s : tie.Start) where
   long : length (live s.args.board) ≡ s.args.board.count
   long = live-long s.args.board (omega (arith, array, s.pre.few))
 
-returns : tie.Need-returns
+returns : tie.Need-returns-then-out-count
 unfolding told told_to
 returns c =
     let s = c.before.before in
-    rw (lt-leb (2 * length (live s.args.board)) (length s.args.out.now) (omega (arith, long s, c.before.if1.true))) (search rules)
+    rw (lt-leb (2 * length (live s.args.board)) (length s.args.out.now) (omega (arith, long s, c.before.if-out-count.true))) (search rules)
 
-returns-2 : tie.Need-returns-2
+returns-2 : tie.Need-returns
 unfolding told told_to
 returns-2 c =
     let e = c.before.before.before.before in
     let s = e.before in
-    rw (le-leb (2 * length (live s.args.board)) (length s.args.out.now) (omega (arith, long s, e.if1.false)))
-    (cc (long s, to_z-of_z {w = w64} {z = c.total_of.result} (search rules)), c.before.before.write-runs.ensures)
+    rw (le-leb (2 * length (live s.args.board)) (length s.args.out.now) (omega (arith, long s, e.if-out-count.false)))
+    (cc (long s, to_z-of_z {w = w64} {z = c.total_of.result} (search rules)), c.before.before.write_runs.ensures)
 
-pub list-sound-spec : {M : Type 1} → statement M
-list-sound-spec =
+pub list_sound_spec : {M : Type 1} → statement M
+list_sound_spec =
     tie.close
     (tie.spec
     (λ c. search rules)

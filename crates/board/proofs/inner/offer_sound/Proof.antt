@@ -19,7 +19,7 @@ use Rattle.board.proofs.inner.offer_sound.Tie as tie
 
 -- ---- what is known once the front is made
 
-module _ (c : tie.After-front-of) where
+module _ (c : tie.After-front_of-front) where
   abbrev b : Board
   b = c.before.before.before.before.args.board
 
@@ -27,10 +27,10 @@ module _ (c : tie.After-front-of) where
   union = with_run (span_run c.before.before.before.before.args.span) (live b)
 
   abbrev front : Front
-  front = c.front_of.result
+  front = c.front_of-front.result
 
   gathered : Gathered front (live b) union
-  gathered = rw c.before.run_of.ensures at c.front_of.ensures
+  gathered = rw c.before.run_of.ensures at c.front_of-front.ensures
 
   whole_is : whole_of front (live b) ≡ union
   unfolding whole_of
@@ -48,32 +48,32 @@ module _ (c : tie.After-front-of) where
   size : length union ≡ front.count + (1 + (b.count - front.next))
   size = omega (arith, filling-length gathered.filling, length-drop front.next (live b), long)
 
-filled-requires : tie.Need-filled-requires
+filled-requires : tie.Need-filled-next-requires
 filled-requires c κs =
     let d = c.before.before.before.before in
     (d.before.before.before.before.requires, (rw (whole_is d) (gathered d), rw (whole_is d) (omega (arith, size d))))
 
-returns : tie.Need-returns
+returns : tie.Need-returns-then-is_empty
 unfolding added
-returns c = rw (← c.before.is-empty.ensures, c.if1.true)
+returns c = rw (← c.before.is_empty.ensures, c.if-is_empty.true)
 
-returns-2 : tie.Need-returns-2
+returns-2 : tie.Need-returns-then-front-board-lt-BOARD_RUNS
 unfolding added
 returns-2 c =
     let d = c.before.before.before.before.before in
     let e = d.before.before in
-    let few : length (union d) ≤ board_runs = omega (arith, size d, c.before.if2.true) in
-    rw (← e.before.is-empty.ensures, e.if1.false, le-leb (length (union d)) board_runs few) (ap (answer_of 0) (c.filled.ensures ∙ ap (board_of (b d).row) (whole_is d)))
+    let few : length (union d) ≤ board_runs = omega (arith, size d, c.before.if-front-board-lt-BOARD_RUNS.true) in
+    rw (← e.before.is_empty.ensures, e.if-is_empty.false, le-leb (length (union d)) board_runs few) (ap (answer_of 0) (c.filled-next.ensures ∙ ap (board_of (b d).row) (whole_is d)))
 
-returns-3 : tie.Need-returns-3
+returns-3 : tie.Need-returns
 unfolding added
 returns-3 c =
     let d = c.before.before.before.before.before in
     let e = d.before.before in
-    rw (← e.before.is-empty.ensures, e.if1.false, lt-leb (length (union d)) board_runs (omega (arith, size d, c.before.if2.false))) c.refused.ensures
+    rw (← e.before.is_empty.ensures, e.if-is_empty.false, lt-leb (length (union d)) board_runs (omega (arith, size d, c.before.if-front-board-lt-BOARD_RUNS.false))) c.refused.ensures
 
-pub offer-sound-spec : {M : Type 1} → statement M
-offer-sound-spec =
+pub offer_sound_spec : {M : Type 1} → statement M
+offer_sound_spec =
     tie.close
     (tie.spec
     (λ c κs. search rules)

@@ -29,10 +29,10 @@ use Rattle.board.proofs.inner.total_of.Tie as tie
 abbrev longest : ℕ
 longest = suc line_limit + suc line_limit
 
-abbrev invariant-loop : tie.invariant-loop
+abbrev invariant-loop : tie.invariant-loop-i
 invariant-loop board n sum₀ i₀ sum i = (i ≤ n) × (Within sum.total (longest * (i + 1)) × (sum.total +ℤ total (drop i (live board)) ≡ total (live board)))
 
-abbrev decreases-loop : tie.decreases-loop
+abbrev decreases-loop : tie.decreases-loop-i
 decreases-loop board n sum₀ i₀ sum i = n - i
 
 array : (s : tie.Start invariant-loop decreases-loop) → length s.args.t1.runs ≡ 32
@@ -40,12 +40,12 @@ array s = search (rules, length-mapped)
 
 -- ---- in a turn: the run is the first that is left and lies inside the columns, and the sum is small
 
-module _ (c : tie.In-loop invariant-loop decreases-loop) where
+module _ (c : tie.In-loop-i invariant-loop decreases-loop) where
   abbrev b : Board
   b = c.before.before.args.t1
 
   abbrev i : ℕ
-  i = c.before.loop.i
+  i = c.before.loop-i.i
 
   abbrev run : Run
   run = get_or b.runs i no_run
@@ -59,14 +59,14 @@ module _ (c : tie.In-loop invariant-loop decreases-loop) where
   length-held : Hold (of_z w64 (to_z w64 (of_z w64 run.end) -ℤ to_z w64 (of_z w64 run.start))) (run.end -ℤ run.start) longest
   length-held = hold-sub (hold inside.end_near tt) (hold inside.start_near tt) tt
 
-  sum-held : Hold (of_z w64 c.before.loop.sum.total) c.before.loop.sum.total (longest * (board_runs + 1))
-  sum-held = hold (within_more c.before.loop.invariant.1.0 (omega (arith, c.before.before.requires.few))) tt
+  sum-held : Hold (of_z w64 c.before.loop-i.sum.total) c.before.loop-i.sum.total (longest * (board_runs + 1))
+  sum-held = hold (within_more c.before.loop-i.invariant.1.0 (omega (arith, c.before.before.requires.few))) tt
 
-loop-again : tie.Need-loop-preserved invariant-loop decreases-loop
+loop-again : tie.Need-loop-i-preserved invariant-loop decreases-loop
 unfolding total
 loop-again c =
     let t = c.before.before.before.before.before in
-    let l = t.before.loop in
+    let l = t.before.loop-i in
     let rest = total (drop (i t + 1) (live (b t))) in
     let more = rw (next t) at l.invariant.1.1 in
     let is = (hold-add (sum-held t) (length-held t) tt).is in (
@@ -81,11 +81,11 @@ returns : tie.Need-returns invariant-loop decreases-loop
 unfolding total
 returns c =
     let l = c.before.before in
-    let all = rw (live-none l.before.args.t1 l.loop.i (omega arith)) at l.loop.invariant.1.1 in
-    cc (to_z-of_z {w = w64} {z = l.loop.sum.total} (search rules), +ℤ_idr l.loop.sum.total)
+    let all = rw (live-none l.before.args.t1 l.loop-i.i (omega arith)) at l.loop-i.invariant.1.1 in
+    cc (to_z-of_z {w = w64} {z = l.loop-i.sum.total} (search rules), +ℤ_idr l.loop-i.sum.total)
 
-pub total-of-spec : {M : Type 1} → statement M
-total-of-spec =
+pub total_of_spec : {M : Type 1} → statement M
+total_of_spec =
     tie.close
     (tie.spec
     invariant-loop

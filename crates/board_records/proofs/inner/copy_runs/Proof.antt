@@ -272,9 +272,9 @@ module _ {M : Type 1} {𝓤 : Ura M} (𝓛 : Logic 𝓤) (at_mem : Memory → SP
   meets = walk_Meets 𝓛 copy-runs.ended stayed (Goes-none 𝓛 1 (λ _. B.the_row) yes (λ κs x f. refl), (Goes-none 𝓛 1 (λ _. usize) yes (λ κs x f. refl), (Goes-slice 𝓛 1 0 tt (plain (λ _. R)), tt)))
       (copy-runs.clauses 𝓛 at_mem run) (WpFn 𝓤 H 𝓣.C 𝓣.Λ code.function) (WpFn-mono 𝓤 H 𝓛.laws 𝓣 code.function) walks
 
-pub copy-runs-spec : {M : Type 1} → stated.statement M
+pub copy_runs_spec : {M : Type 1} → stated.statement M
 unfolding code.routine tables_of
-copy-runs-spec 𝓤 𝓛 𝓜 𝓡 =
+copy_runs_spec 𝓤 𝓛 𝓜 𝓡 =
     entered 𝓤 𝓛.H (triple_of 𝓛 copy-runs.signature (copy-runs.spec 𝓛 𝓜.mem 𝓡.run))
     (tables 𝓤 𝓛.H 𝓜 𝓡 code.env).C (tables 𝓤 𝓛.H 𝓜 𝓡 code.env).Λ #copy-runs code.function (code.unfolded 𝓤 𝓛.H 𝓜 𝓡)
     (meets 𝓛 𝓜.mem 𝓡.run (tables_of 𝓤 𝓛.H 𝓜 (tables 𝓤 𝓛.H 𝓜 𝓡 code.env))

@@ -4,7 +4,7 @@ use Rattle.bresenham.specs.Walk.{decreased}
 use Rattle.bresenham.proofs.inner.decrease_error.Statement.{statement}
 use Rattle.bresenham.proofs.inner.decrease_error.Tie as tie
 
-add-carried : tie.Need-overflow-add-carried
+add-carried : tie.Need-overflow_add-moved
 add-carried c =
     let q = c.before.before.before.before.before.before.requires in
     fits-add (hold-sub (hold q.1 tt) (hold q.0.gain_small tt) tt) (hold q.0.loss_small tt) tt
@@ -16,8 +16,8 @@ returns c =
     let moved = hold-sub (hold q.1 tt) (hold q.0.gain_small tt) tt in
     cc (moved.is, (hold-neg (hold q.0.threshold_small tt) tt).is, (hold-add moved (hold q.0.loss_small tt) tt).is)
 
-pub decrease-error-spec : {M : Type 1} → statement M
-decrease-error-spec =
+pub decrease_error_spec : {M : Type 1} → statement M
+decrease_error_spec =
     tie.close
     (tie.spec
     (λ c. let q = c.before.before.requires in fits_sub (hold q.1 tt) (hold q.0.gain_small tt) tt)

@@ -14,12 +14,12 @@ use Rattle.bresenham.proofs.inner.next.Tie as tie
 
 plus-requires : tie.Need-plus-requires
 plus-requires c κs =
-    let q = c.before.before.requires in
-    rw c.before.turn.ensures (near-more (turned-placed q.0 q.1).0 (lit≤ tt), near-more q.0.major_near (lit≤ tt))
+    let q = c.before.before.before.requires in
+    rw c.before.before.turn-turned.ensures (near-more (turned-placed q.0 q.1).0 (lit≤ tt), near-more q.0.major_near (lit≤ tt))
 
 -- the error after a minor move, in its bits
-error : (c : tie.After-turn) → Hold (of_z w64 c.turn.result.error) (turned c.before.args.p c.before.args.at).error (step_limit + step_limit)
-error c = let q = c.before.requires in hold-as (ap (λ (b : Bresenham). b.error) c.turn.ensures) (turned-placed q.0 q.1).1 tt
+error : (c : tie.After-turn-turned) → Hold (of_z w64 c.turn-turned.result.error) (turned c.before.args.p c.before.args.at).error (step_limit + step_limit)
+error c = let q = c.before.requires in hold-as (ap (λ (b : Bresenham). b.error) c.turn-turned.ensures) (turned-placed q.0 q.1).1 tt
 
 add-t7 : tie.Need-overflow-add-t7
 add-t7 c = let t = c.before.before.before.before.before.before in fits-add (error t) (hold t.before.requires.0.gain_small tt) tt
@@ -27,8 +27,8 @@ add-t7 c = let t = c.before.before.before.before.before.before in fits-add (erro
 returns : tie.Need-returns
 unfolding next_of handed
 returns c =
-    let t = c.before.before.before.before.before.before in
-    rw ((hold-add (error t) (hold t.before.requires.0.gain_small tt) tt).is, c.before.before.before.before.plus.ensures, t.turn.ensures)
+    let t = c.before.before.before.before.before.before.before in
+    rw ((hold-add (error t) (hold t.before.requires.0.gain_small tt) tt).is, c.before.before.before.before.plus.ensures, t.turn-turned.ensures)
 
-pub next-spec : {M : Type 1} → statement M
-next-spec = tie.close (tie.spec (λ c κs. search rules) plus-requires add-t7 returns)
+pub next_spec : {M : Type 1} → statement M
+next_spec = tie.close (tie.spec (λ c κs. search rules) plus-requires add-t7 returns)

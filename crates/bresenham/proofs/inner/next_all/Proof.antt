@@ -14,7 +14,7 @@ add-t8 c = let q = c.before.before.before.before.before.before.before.before.req
 returns : tie.Need-returns
 unfolding next_all
 returns c =
-    let q = c.before.before.before.before.before.before.before.before.before.before.before.requires in
+    let q = c.before.before.before.before.before.before.before.before.before.before.before.before.before.requires in
     let error = hold q.1.error_small tt in
     c.met.ensures
     ∙ rw (
@@ -22,11 +22,11 @@ returns c =
       (hold-add error (hold q.0.gain_small tt) tt).is,
       error.is,
       (hold q.0.threshold_small tt).is,
-      c.before.before.before.before.before.before.before.before.plus.ensures,
-      c.before.before.before.before.before.plus2.ensures,
+      c.before.before.before.before.before.before.before.before.before.plus.ensures,
+      c.before.before.before.before.before.plus-2.ensures,
     )
 
-pub next-all-spec : {M : Type 1} → statement M
-next-all-spec =
+pub next_all_spec : {M : Type 1} → statement M
+next_all_spec =
     tie.close
     (tie.spec (λ c κs. search rules) sub-t8 (λ c κs. search rules) add-t8 (λ c κs. search rules) returns)

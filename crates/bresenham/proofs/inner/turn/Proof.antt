@@ -7,16 +7,16 @@ use Rattle.bresenham.proofs.inner.turn.Tie as tie
 sub-t7 : tie.Need-overflow-sub-t7
 sub-t7 c = let q = c.before.before.before.before.before.before.requires in fits_sub (hold q.1.error_small tt) (hold q.0.loss_small tt) tt
 
-returns : tie.Need-returns
+returns : tie.Need-returns-then-threshold-error
 unfolding turned
 returns c =
-    let q = c.before.before.before.before.before.before.requires in
+    let q = c.before.before.before.before.before.before.before.before.requires in
     let error = hold q.1.error_small tt in
-    simp (lt-hold (hold q.0.threshold_small tt) error c.before.before.before.if1.true) (cc (hold-sub error (hold q.0.loss_small tt) tt).is)
+    simp (lt-hold (hold q.0.threshold_small tt) error c.before.before.before.before.before.if-threshold-error.true) (cc (hold-sub error (hold q.0.loss_small tt) tt).is)
 
-returns-2 : tie.Need-returns-2
+returns-2 : tie.Need-returns
 unfolding turned
-returns-2 c = let q = c.before.before.before.requires in simp (lt-hold (hold q.0.threshold_small tt) (hold q.1.error_small tt) c.if1.false)
+returns-2 c = let q = c.before.before.before.requires in simp (lt-hold (hold q.0.threshold_small tt) (hold q.1.error_small tt) c.if-threshold-error.false)
 
 pub turn_spec : {M : Type 1} → statement M
 turn_spec = tie.close (tie.spec (λ c κs. search rules) sub-t7 returns returns-2)

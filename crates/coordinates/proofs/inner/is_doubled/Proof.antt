@@ -13,59 +13,59 @@ use Rattle.coordinates.proofs.Places.{after-inside}
 use Rattle.coordinates.proofs.inner.is_doubled.Statement.{statement}
 use Rattle.coordinates.proofs.inner.is_doubled.Tie as tie
 
-abbrev invariant-loop : tie.invariant-loop
+abbrev invariant-loop : tie.invariant-loop-place
 invariant-loop coordinates closed count segments place₀ place =
     some_from (is_repeated coordinates) place (segments - place) ≡ is_doubled closed coordinates
 
-abbrev decreases-loop : tie.decreases-loop
+abbrev decreases-loop : tie.decreases-loop-place
 decreases-loop coordinates closed count segments place₀ place = segments - place
 
 -- the segments are those of the list
-counted : (c : tie.After-segments-of invariant-loop decreases-loop) → let a = c.before.before.args in c.segments-of.result ≡ segments_of a.closed (point_count a.coordinates.now)
+counted : (c : tie.After-segments_of-segments invariant-loop decreases-loop) → let a = c.before.before.args in c.segments_of-segments.result ≡ segments_of a.closed (point_count a.coordinates.now)
 counted c =
-    let told : c.segments-of.result ≡ segments_of c.before.before.args.closed c.before.point-count.result = c.segments-of.ensures in
-    told ∙ ap (segments_of c.before.before.args.closed) c.before.point-count.ensures
+    let told : c.segments_of-segments.result ≡ segments_of c.before.before.args.closed c.before.point_count-count.result = c.segments_of-segments.ensures in
+    told ∙ ap (segments_of c.before.before.args.closed) c.before.point_count-count.ensures
 
 -- each begins at a point, and ends at one
-begins : (c : tie.In-loop invariant-loop decreases-loop) → let l = c.before in l.loop.place < point_count l.before.before.before.args.coordinates.now
+begins : (c : tie.In-loop-place invariant-loop decreases-loop) → let l = c.before in l.loop-place.place < point_count l.before.before.before.args.coordinates.now
 begins c =
     let s = c.before.before in
     segment-inside s.before.before.args.closed (omega (arith, counted s))
 
 -- a point is doubled where the two points here are equal, or two of those after them
-here : (c : tie.After-same-point invariant-loop decreases-loop) → let l = c.before.before.before.before.before in let a = l.before.before.before.args in
-    (c.same_point.result || some_from (is_repeated a.coordinates.now) (l.loop.place + 1) (l.before.segments-of.result - (l.loop.place + 1))) ≡ is_doubled a.closed a.coordinates.now
+here : (c : tie.After-same_point invariant-loop decreases-loop) → let l = c.before.before.before.before.before in let a = l.before.before.before.args in
+    (c.same_point.result || some_from (is_repeated a.coordinates.now) (l.loop-place.place + 1) (l.before.segments_of-segments.result - (l.loop-place.place + 1))) ≡ is_doubled a.closed a.coordinates.now
 here c =
     let l = c.before.before.before.before.before in
     let a = l.before.before.before.args in
-    let same : is_repeated a.coordinates.now l.loop.place ≡ c.same_point.result = cc in
-    sym (some_next (is_repeated a.coordinates.now) l.before.segments-of.result l.loop.place (omega arith) c.same_point.result same) ∙ l.loop.invariant
+    let same : is_repeated a.coordinates.now l.loop-place.place ≡ c.same_point.result = cc in
+    sym (some_next (is_repeated a.coordinates.now) l.before.segments_of-segments.result l.loop-place.place (omega arith) c.same_point.result same) ∙ l.loop-place.invariant
 
-loop-holds : tie.Need-loop-init invariant-loop decreases-loop
+loop-holds : tie.Need-loop-place-init invariant-loop decreases-loop
 unfolding is_doubled
 loop-holds c =
-    let all : c.segments-of.result - 0 ≡ segments_of c.before.before.args.closed (point_count c.before.before.args.coordinates.now) = omega (arith, counted c) in
+    let all : c.segments_of-segments.result - 0 ≡ segments_of c.before.before.args.closed (point_count c.before.before.args.coordinates.now) = omega (arith, counted c) in
     rw all
 
-point-at-requires : tie.Need-point-at-requires invariant-loop decreases-loop
+point-at-requires : tie.Need-point_at-here-requires invariant-loop decreases-loop
 point-at-requires c κs = begins c
 
-place-after-requires : tie.Need-place-after-requires invariant-loop decreases-loop
-place-after-requires c κs = omega (arith, begins c.before, c.before.before.before.before.point-count.ensures)
+place-after-requires : tie.Need-place_after-requires invariant-loop decreases-loop
+place-after-requires c κs = omega (arith, begins c.before, c.before.before.before.before.point_count-count.ensures)
 
-point-at-requires-2 : tie.Need-point-at-requires-2 invariant-loop decreases-loop
-point-at-requires-2 c κs = rw (c.place_after.ensures, c.before.before.before.before.before.point-count.ensures) (after-inside (begins c.before.before))
+point-at-requires-2 : tie.Need-point_at-next-requires invariant-loop decreases-loop
+point-at-requires-2 c κs = rw (c.place_after.ensures, c.before.before.before.before.before.point_count-count.ensures) (after-inside (begins c.before.before))
 
-returns : tie.Need-returns invariant-loop decreases-loop
-returns c = rw c.if1.true at (here c.before)
+returns : tie.Need-returns-then-same_point invariant-loop decreases-loop
+returns c = rw c.if-same_point.true at (here c.before)
 
-loop-again : tie.Need-loop-preserved invariant-loop decreases-loop
-loop-again c = rw c.if1.false at (here c.before)
+loop-again : tie.Need-loop-place-preserved invariant-loop decreases-loop
+loop-again c = rw c.if-same_point.false at (here c.before)
 
-returns-2 : tie.Need-returns-2 invariant-loop decreases-loop
+returns-2 : tie.Need-returns invariant-loop decreases-loop
 returns-2 c =
     let l = c.before in
-    sym (some_end (is_repeated l.before.before.before.args.coordinates.now) l.before.segments-of.result l.loop.place (omega arith)) ∙ l.loop.invariant
+    sym (some_end (is_repeated l.before.before.before.args.coordinates.now) l.before.segments_of-segments.result l.loop-place.place (omega arith)) ∙ l.loop-place.invariant
 
-pub is-doubled-spec : {M : Type 1} → statement M
-is-doubled-spec = tie.close (tie.spec invariant-loop decreases-loop (λ c κs. search rules) (λ c κs. search rules) loop-holds point-at-requires place-after-requires point-at-requires-2 (λ c κs. search rules) returns (λ c. search rules) (λ c. omega arith) loop-again returns-2)
+pub is_doubled_spec : {M : Type 1} → statement M
+is_doubled_spec = tie.close (tie.spec invariant-loop decreases-loop (λ c κs. search rules) (λ c κs. search rules) loop-holds point-at-requires place-after-requires point-at-requires-2 (λ c κs. search rules) returns (λ c. search rules) (λ c. omega arith) loop-again returns-2)

@@ -3,13 +3,13 @@ use Rattle.extents.specs.Edges.{seen}
 use Rattle.extents.proofs.inner.see.Statement.{statement}
 use Rattle.extents.proofs.inner.see.Tie as tie
 
-returns : tie.Need-returns
+returns : tie.Need-returns-in-Left
 unfolding seen
-returns c = rw c.enum_told.given.1
+returns c = rw c.enum_told-1.given.1
 
-returns-2 : tie.Need-returns-2
+returns-2 : tie.Need-returns-in-Right
 unfolding seen
-returns-2 c = rw c.enum-told2.given.1
+returns-2 c = rw c.enum_told-in-Right-1.given.1
 
-pub see-spec : {M : Type 1} → statement M
-see-spec = tie.close (tie.spec (λ c. search rules) (λ c. search rules) returns returns-2)
+pub see_spec : {M : Type 1} → statement M
+see_spec = tie.close (tie.spec (λ c. search rules) (λ c. search rules) returns returns-2)

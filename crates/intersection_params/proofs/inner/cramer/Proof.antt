@@ -42,9 +42,9 @@ returns c =
     let ys = point-held (y-held t.0.normal_near tt) (y-held t.1.normal_near tt) in
     simp (
       to_z-of_z {w = w64} {z = c.before.before.determinant.result} (search rules) ∙ c.before.before.determinant.ensures,
-      to_z-of_z {w = w64} {z = c.before.determinant2.result} (search rules) ∙ c.before.determinant2.ensures ∙ both distances ys,
-      to_z-of_z {w = w64} {z = c.determinant3.result} (search rules) ∙ c.determinant3.ensures ∙ both xs distances,
+      to_z-of_z {w = w64} {z = c.before.determinant-2.result} (search rules) ∙ c.before.determinant-2.ensures ∙ both distances ys,
+      to_z-of_z {w = w64} {z = c.determinant-3.result} (search rules) ∙ c.determinant-3.ensures ∙ both xs distances,
     )
 
-pub cramer-spec : {M : Type 1} → statement M
-cramer-spec = tie.close (tie.spec (λ c κs. search rules) determinant-requires-2 determinant-requires-3 returns)
+pub cramer_spec : {M : Type 1} → statement M
+cramer_spec = tie.close (tie.spec (λ c κs. search rules) determinant-requires-2 determinant-requires-3 returns)

@@ -27,7 +27,7 @@ returns c =
     let x = c.before.before in
     let t = x.before.before.before.requires.0 in
     let d = (hold t.determinant_within tt).is in
-    simp (x.division.ensures ∙ both (hold t.x_within tt).is d, c.division2.ensures ∙ both (hold t.y_within tt).is d)
+    simp (x.division.ensures ∙ both (hold t.x_within tt).is d, c.division-2.ensures ∙ both (hold t.y_within tt).is d)
 
-pub divisions-spec : {M : Type 1} → statement M
-divisions-spec = tie.close (tie.spec division-requires division-requires-2 returns)
+pub divisions_spec : {M : Type 1} → statement M
+divisions_spec = tie.close (tie.spec division-requires division-requires-2 returns)

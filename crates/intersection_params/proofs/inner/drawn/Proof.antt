@@ -14,15 +14,15 @@ use Rattle.intersection_params.proofs.inner.drawn.Statement.{statement}
 use Rattle.intersection_params.proofs.inner.drawn.Tie as tie
 
 -- past the test the determinant is not 0
-some : (c : tie.Else1) → c.before.before.args.solution.determinant ≢ pos 0
-some c = ne-back c.if1.false
+some : (c : tie.Else-determinant-eq0) → c.before.before.args.solution.determinant ≢ pos 0
+some c = ne-back c.if-determinant-eq0.false
 
 both : {n m d e : ℤ} → n ≡ m → d ≡ e → rounded n d ≡ rounded m e
 both p q = cc
 
-returns : tie.Need-returns
+returns : tie.Need-returns-then-determinant-eq0
 unfolding drawn_of
-returns c = simp (eq-hold (hold c.before.before.requires.determinant_within tt) (literal 0 tt) c.if1.true)
+returns c = simp (eq-hold (hold c.before.before.requires.determinant_within tt) (literal 0 tt) c.if-determinant-eq0.true)
 
 rounded-requires : tie.Need-rounded-requires
 rounded-requires c κs =
@@ -34,20 +34,20 @@ rounded-requires-2 c κs =
     let t = c.before.before.before.before.before.requires in
     rw ((hold t.y_within tt).is, (hold t.determinant_within tt).is) (within_more t.y_within (lit≤ tt), (within_more t.determinant_within (lit≤ tt), some c.before.before.before))
 
-returns-2 : tie.Need-returns-2
+returns-2 : tie.Need-returns
 unfolding drawn_of
 returns-2 c =
     let past = c.before.before.before.before.before in
     let t = past.before.before.requires in
     let d = (hold t.determinant_within tt).is in
     let x = c.before.before.before.rounded in
-    let y = c.before.rounded2 in
+    let y = c.before.rounded-2 in
     simp (
       eq_z-no past.before.before.args.solution.determinant (pos 0) (some past),
       to_z-of_z {w = w64} {z = x.result} (search rules) ∙ x.ensures ∙ both (hold t.x_within tt).is d,
       to_z-of_z {w = w64} {z = y.result} (search rules) ∙ y.ensures ∙ both (hold t.y_within tt).is d,
-      c.outer-side.ensures ∙ ap side_of d,
+      c.outer_side-side.ensures ∙ ap side_of d,
     )
 
-pub drawn-spec : {M : Type 1} → statement M
-drawn-spec = tie.close (tie.spec returns rounded-requires rounded-requires-2 (λ c κs. search rules) returns-2)
+pub drawn_spec : {M : Type 1} → statement M
+drawn_spec = tie.close (tie.spec returns rounded-requires rounded-requires-2 (λ c κs. search rules) returns-2)

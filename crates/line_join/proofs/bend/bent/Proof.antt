@@ -14,39 +14,39 @@ all : {l m r s : Origin} {j k : Join} → l ≡ m → r ≡ s → j ≡ k → tr
 all e f g = cc
 
 -- what the left and the right edges meet at
-left : (c : tie.After-meet) → let a = c.before.args in c.meet.result.found ≡ meet a.second.left a.first.left
-left c = ap (λ m. m.found) c.meet.ensures
+left : (c : tie.After-meet-on_left) → let a = c.before.before.before.args in c.meet-on_left.result.found ≡ meet a.second.left a.first.left
+left c = ap (λ m. m.found) c.meet-on_left.ensures
 
-right : (c : tie.After-meet2) → let a = c.before.before.args in c.meet2.result.found ≡ meet a.second.right a.first.right
-right c = ap (λ m. m.found) c.meet2.ensures
+right : (c : tie.After-meet-on_right) → let a = c.before.before.before.before.before.before.args in c.meet-on_right.result.found ≡ meet a.second.right a.first.right
+right c = ap (λ m. m.found) c.meet-on_right.ensures
 
 -- it is a point
-left_at : (c : tie.After-found-left) → let a = c.before.before.before.before.args in meet a.second.left a.first.left ≡ At c.found_left.given.0.0 c.found_left.given.0.1.0
-left_at c = sym (left c.before.before.before) ∙ c.found_left.given.1
+left_at : (c : tie.In-At-2) → let a = c.before.before.before.before.before.before.before.before.args in meet a.second.left a.first.left ≡ At c.found_left-1.given.0.0 c.found_left-1.given.0.1.0
+left_at c = sym (left c.before.before.before.before.before) ∙ c.found_left-1.given.1
 
-right_at : (c : tie.After-found-right) → let a = c.before.before.before.before.before.before.before.args in meet a.second.right a.first.right ≡ At c.found_right.given.0.0 c.found_right.given.0.1.0
-right_at c = sym (right c.before.before.before.before.before) ∙ c.found_right.given.1
+right_at : (c : tie.In-At-found_right-2) → let a = c.before.before.before.before.before.before.before.before.before.before.before.args in meet a.second.right a.first.right ≡ At c.found_right-1.given.0.0 c.found_right-1.given.0.1.0
+right_at c = sym (right c.before.before.before.before.before) ∙ c.found_right-1.given.1
 
 -- the join's origins are those of the two meetings
-with-origins : (c : tie.After-traced) → let m = c.before.before.before.before.before.before.before.before in c.traced.result ≡ traced_by m.before.meet.result.origin m.meet2.result.origin c.before.bent-at.result
+with-origins : (c : tie.After-traced) → let m = c.before.before.before.before.before.before.before.before in c.traced.result ≡ traced_by m.before.before.before.meet-on_left.result.origin m.meet-on_right.result.origin c.before.bent_at-join.result
 with-origins c = c.traced.ensures
 
-returns : tie.Need-returns
+returns : tie.Need-returns-in_default
 unfolding bent_of
 returns c =
     let told = c.before in
-    let none = sym (left told.before.before.before) ∙ told.enum_told.given.1 in
-    c.at-edges.ensures ∙ simp none
+    let none = sym (left told.before.before.before) ∙ told.enum_told-1.given.1 in
+    c.at_edges.ensures ∙ simp none
 
-returns-2 : tie.Need-returns-2
+returns-2 : tie.Need-returns-in_default-found_right
 unfolding bent_of
 returns-2 c =
     let told = c.before in
     let l = told.before.before.before in
-    let none = sym (right l.before.before) ∙ told.enum-told2.given.1 in
-    c.at-edges2.ensures ∙ simp (left_at l, none)
+    let none = sym (right l.before.before) ∙ told.enum_told-in_default-found_right-1.given.1 in
+    c.at_edges-in_default-found_right.ensures ∙ simp (left_at l, none)
 
-bent-at-requires : tie.Need-bent-at-requires
+bent-at-requires : tie.Need-bent_at-join-requires
 bent-at-requires c κs =
     let r = c.before in
     let l = r.before.before.before in
@@ -57,7 +57,7 @@ bent-at-requires c κs =
       (s, (record { left_near = subst Inside (left_at l) (meet-room s.left_near f.left_near); right_near = subst Inside (right_at r) (meet-room s.right_near f.right_near) }, ((t.1.1.0, thin-back t.1.1.1)))),
     )
 
-returns-3 : tie.Need-returns-3
+returns-3 : tie.Need-returns
 unfolding bent_of
 returns-3 c =
     let b = c.before in
@@ -66,12 +66,12 @@ returns-3 c =
     let m = l.before.before in
     let a = m.before.before.args in
     let width = (thin-held m.before.before.requires.1.1.1).is in
-    let join = b.bent-at.ensures ∙ ap (bent_at l.found_left.given.0.1.0 (corners_of l.found_left.given.0.0 r.found_right.given.0.0) a.first a.second a.mid) width in
+    let join = b.bent_at-join.ensures ∙ ap (bent_at l.found_left-1.given.0.1.0 (corners_of l.found_left-1.given.0.0 r.found_right-1.given.0.0) a.first a.second a.mid) width in
     with-origins c
-    ∙ all (ap (λ x. x.origin) m.before.meet.ensures) (ap (λ x. x.origin) m.meet2.ensures) join
+    ∙ all (ap (λ x. x.origin) m.before.meet-on_left.ensures) (ap (λ x. x.origin) m.meet-on_right.ensures) join
     ∙ simp (left_at l, right_at r)
 
-pub bent-spec : {M : Type 1} → statement M
-bent-spec =
+pub bent_spec : {M : Type 1} → statement M
+bent_spec =
     tie.close
     (tie.spec (λ c κs. search rules) (λ c κs. search rules) (λ c. search rules) (λ c. search rules) (λ c κs. search rules) returns (λ c. search rules) (λ c. search rules) (λ c κs. search rules) returns-2 bent-at-requires (λ c κs. search rules) returns-3)

@@ -6,9 +6,9 @@ returns : tie.Need-returns
 returns c =
     let starting = c.before in
     let ending = starting.before.before in
-    simp (ending.cut_off.ensures, ending.before.ends.ensures, starting.cut-off2.ensures, starting.before.starts.ensures, c.no-crossings.ensures)
+    simp (ending.cut_off.ensures, ending.before.ends.ensures, starting.cut_off-2.ensures, starting.before.starts.ensures, c.no_crossings.ensures)
 
-pub bevel-spec : {M : Type 1} → statement M
-bevel-spec =
+pub bevel_spec : {M : Type 1} → statement M
+bevel_spec =
     tie.close
     (tie.spec (λ c κs. search rules) (λ c κs. search rules) (λ c κs. search rules) (λ c κs. search rules) (λ c κs. search rules) returns)

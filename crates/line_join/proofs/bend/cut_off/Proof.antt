@@ -4,17 +4,17 @@ use Rattle.line_join.specs.Join.{cut_off}
 use Rattle.line_join.proofs.bend.cut_off.Statement.{statement}
 use Rattle.line_join.proofs.bend.cut_off.Tie as tie
 
-returns : tie.Need-returns
+returns : tie.Need-returns-in-Left
 returns c =
     let told = c.before.before in
     let a = told.before.before.args in
-    ap (λ s. cut_off s a.edge a.crossing) (sym told.enum_told.given.1)
+    ap (λ s. cut_off s a.edge a.crossing) (sym told.enum_told-1.given.1)
 
-returns-2 : tie.Need-returns-2
+returns-2 : tie.Need-returns-in-Right
 returns-2 c =
     let told = c.before.before in
     let a = told.before.before.args in
-    ap (λ s. cut_off s a.edge a.crossing) (sym told.enum-told2.given.1)
+    ap (λ s. cut_off s a.edge a.crossing) (sym told.enum_told-in-Right-1.given.1)
 
-pub cut-off-spec : {M : Type 1} → statement M
-cut-off-spec = tie.close (tie.spec (λ c. search rules) (λ c. search rules) returns returns-2)
+pub cut_off_spec : {M : Type 1} → statement M
+cut_off_spec = tie.close (tie.spec (λ c. search rules) (λ c. search rules) returns returns-2)

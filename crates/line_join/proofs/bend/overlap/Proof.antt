@@ -7,36 +7,36 @@ use Rattle.line_join.specs.Join.{overlapping}
 use Rattle.line_join.proofs.bend.overlap.Statement.{statement}
 use Rattle.line_join.proofs.bend.overlap.Tie as tie
 
-check-side-requires : tie.Need-check-side-requires
+check-side-requires : tie.Need-check_side-requires
 check-side-requires c κs =
-    let t = c.before.before.before.before.requires in
-    (rw c.from-line.ensures (tame t.0.right_near), t.1.right_near.end_near)
+    let t = c.before.before.before.before.before.before.requires in
+    (rw c.before.from_line.ensures (tame t.0.right_near), t.1.right_near.end_near)
 
-check-side-requires-2 : tie.Need-check-side-requires-2
+check-side-requires-2 : tie.Need-check_side-requires-in-Right
 check-side-requires-2 c κs =
-    let t = c.before.before.before.before.requires in
-    (rw c.from-line2.ensures (tame t.0.left_near), t.1.left_near.end_near)
+    let t = c.before.before.before.before.before.before.requires in
+    (rw c.before.from_line-in-Right.ensures (tame t.0.left_near), t.1.left_near.end_near)
 
-returns : tie.Need-returns
+returns : tie.Need-returns-in-Left
 unfolding overlapping
 returns c =
-    let told = c.before.before.before in
+    let told = c.before.before.before.before.before in
     let a = told.before.before.args in
-    c.check-side.ensures
-    ∙ ap (λ e. is_on_side e a.second.right.end Left) c.before.from-line.ensures
-    ∙ ap (λ s. overlapping s a.first a.second) (sym told.enum_told.given.1)
+    c.check_side.ensures
+    ∙ ap (λ e. is_on_side e a.second.right.end Left) c.before.before.from_line.ensures
+    ∙ ap (λ s. overlapping s a.first a.second) (sym told.enum_told-1.given.1)
 
-returns-2 : tie.Need-returns-2
+returns-2 : tie.Need-returns-in-Right
 unfolding overlapping
 returns-2 c =
-    let told = c.before.before.before in
+    let told = c.before.before.before.before.before in
     let a = told.before.before.args in
-    c.check-side2.ensures
-    ∙ ap (λ e. is_on_side e a.second.left.end Right) c.before.from-line2.ensures
-    ∙ ap (λ s. overlapping s a.first a.second) (sym told.enum-told2.given.1)
+    c.check_side-in-Right.ensures
+    ∙ ap (λ e. is_on_side e a.second.left.end Right) c.before.before.from_line-in-Right.ensures
+    ∙ ap (λ s. overlapping s a.first a.second) (sym told.enum_told-in-Right-1.given.1)
 
-pub overlap-spec : {M : Type 1} → statement M
-overlap-spec =
+pub overlap_spec : {M : Type 1} → statement M
+overlap_spec =
     tie.close
     (tie.spec
     (λ c. search rules)

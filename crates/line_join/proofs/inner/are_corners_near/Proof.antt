@@ -7,5 +7,5 @@ returns : tie.Need-returns
 unfolding is_corners_near
 returns c = cc
 
-pub are-corners-near-spec : {M : Type 1} → statement M
-are-corners-near-spec = tie.close (tie.spec (λ c κs. search rules) (λ c κs. search rules) (λ c κs. search rules) returns)
+pub are_corners_near_spec : {M : Type 1} → statement M
+are_corners_near_spec = tie.close (tie.spec (λ c κs. search rules) (λ c κs. search rules) (λ c κs. search rules) returns)

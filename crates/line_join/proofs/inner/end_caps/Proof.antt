@@ -7,5 +7,5 @@ returns : tie.Need-returns
 unfolding end_caps_of
 returns c = c.cap.ensures
 
-pub end-caps-spec : {M : Type 1} → statement M
-end-caps-spec = tie.close (tie.spec (λ c κs. search rules) returns)
+pub end_caps_spec : {M : Type 1} → statement M
+end_caps_spec = tie.close (tie.spec (λ c κs. search rules) returns)

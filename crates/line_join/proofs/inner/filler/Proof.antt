@@ -6,26 +6,26 @@ use Rattle.line_join.proofs.Others.{not-bevelled}
 use Rattle.line_join.proofs.inner.filler.Statement.{statement}
 use Rattle.line_join.proofs.inner.filler.Tie as tie
 
-returns : tie.Need-returns
+returns : tie.Need-returns-in-Bevel
 unfolding filler_of
 returns c =
-    let known = c.before.before in
+    let known = c.before.before.before.before in
     let j = known.before.before.args.join in
-    ap Filled c.outer-line.ensures ∙ ap (λ k. filler_by k j.ending j.starting) (sym known.kind.given.1)
+    ap Filled c.outer_line.ensures ∙ ap (λ k. filler_by k j.ending j.starting) (sym known.kind-1.given.1)
 
-returns-2 : tie.Need-returns-2
+returns-2 : tie.Need-returns-in-Degenerate
 unfolding filler_of
 returns-2 c =
-    let known = c.before.before in
+    let known = c.before.before.before.before in
     let j = known.before.before.args.join in
-    ap Filled c.outer-line2.ensures ∙ ap (λ k. filler_by k j.ending j.starting) (sym known.kind2.given.1)
+    ap Filled c.outer_line-in-Degenerate.ensures ∙ ap (λ k. filler_by k j.ending j.starting) (sym known.kind-in-Degenerate-1.given.1)
 
-returns-3 : tie.Need-returns-3
+returns-3 : tie.Need-returns-in_default
 unfolding filler_of
-returns-3 c = let j = c.before.args.join in sym (not-bevelled j.kind j.ending j.starting c.match.keys3)
+returns-3 c = let j = c.before.args.join in sym (not-bevelled j.kind-1 j.ending j.starting c.in_default.keys3)
 
-pub filler-spec : {M : Type 1} → statement M
-filler-spec =
+pub filler_spec : {M : Type 1} → statement M
+filler_spec =
     tie.close
     (tie.spec
     (λ c. search rules)

@@ -10,17 +10,17 @@ use Rattle.line_join.proofs.inner.from_points.Statement.{statement}
 use Rattle.line_join.proofs.inner.from_points.Tie as tie
 
 -- the edges of the first line
-first : (c : tie.After-extents) → c.extents.result ≡ extents_of (line_of c.before.args.a c.before.args.b) c.before.args.width c.before.args.offset
-first c = let a = c.before.args in c.extents.ensures ∙ ap (λ w. extents_of (line_of a.a a.b) w a.offset) (thin-held c.before.requires.1.1.1).is
+first : (c : tie.After-extents-first) → c.extents-first.result ≡ extents_of (line_of c.before.args.a c.before.args.b) c.before.args.width c.before.args.offset
+first c = let a = c.before.args in c.extents-first.ensures ∙ ap (λ w. extents_of (line_of a.a a.b) w a.offset) (thin-held c.before.requires.1.1.1).is
 
 -- those of the second
-second : (c : tie.After-extents2) → c.extents2.result ≡ extents_of (line_of c.before.before.args.b c.before.before.args.c) c.before.before.args.width c.before.before.args.offset
-second c = let a = c.before.before.args in c.extents2.ensures ∙ ap (λ w. extents_of (line_of a.b a.c) w a.offset) (thin-held c.before.before.requires.1.1.1).is
+second : (c : tie.After-extents-second) → c.extents-second.result ≡ extents_of (line_of c.before.before.args.b c.before.before.args.c) c.before.before.args.width c.before.before.args.offset
+second c = let a = c.before.before.args in c.extents-second.ensures ∙ ap (λ w. extents_of (line_of a.b a.c) w a.offset) (thin-held c.before.before.requires.1.1.1).is
 
-extents-requires : tie.Need-extents-requires
+extents-requires : tie.Need-extents-first-requires
 extents-requires c κs = let t = c.requires in extents-room t.0 t.1.0 t.1.1.1
 
-extents-requires-2 : tie.Need-extents-requires-2
+extents-requires-2 : tie.Need-extents-second-requires
 extents-requires-2 c κs = let t = c.before.requires in extents-room t.1.0 t.1.1.0 t.1.1.1
 
 bent-requires : tie.Need-bent-requires
@@ -38,7 +38,7 @@ unfolding join_of
 returns c =
     let e = c.before in
     let s = e.before.before in
-    c.bent.ensures ∙ ap (traced_of e.before.extents.result e.extents2.result s.args.b) (thin-held s.requires.1.1.1).is ∙ simp (first e.before, second e)
+    c.bent.ensures ∙ ap (traced_of e.before.extents-first.result e.extents-second.result s.args.b) (thin-held s.requires.1.1.1).is ∙ simp (first e.before, second e)
 
-pub from-points-spec : {M : Type 1} → statement M
-from-points-spec = tie.close (tie.spec extents-requires extents-requires-2 bent-requires returns)
+pub from_points_spec : {M : Type 1} → statement M
+from_points_spec = tie.close (tie.spec extents-requires extents-requires-2 bent-requires returns)

@@ -4,8 +4,8 @@ use Rattle.line_join.proofs.Others.{not-degenerate}
 use Rattle.line_join.proofs.inner.is_degenerate.Statement.{statement}
 use Rattle.line_join.proofs.inner.is_degenerate.Tie as tie
 
-returns-2 : tie.Need-returns-2
-returns-2 c = sym (not-degenerate c.before.args.join.kind c.match.keys2)
+returns-2 : tie.Need-returns-in_default
+returns-2 c = sym (not-degenerate c.before.args.join.kind c.in_default.keys2)
 
-pub is-degenerate-spec : {M : Type 1} → statement M
-is-degenerate-spec = tie.close (tie.spec (λ c. search rules) (λ c. search rules) returns-2)
+pub is_degenerate_spec : {M : Type 1} → statement M
+is_degenerate_spec = tie.close (tie.spec (λ c. search rules) (λ c. search rules) returns-2)

@@ -7,5 +7,5 @@ returns : tie.Need-returns
 unfolding is_join_near
 returns c = cc
 
-pub is-join-near-spec : {M : Type 1} → statement M
-is-join-near-spec = tie.close (tie.spec (λ c κs. search rules) (λ c κs. search rules) (λ c κs. search rules) returns)
+pub is_join_near_spec : {M : Type 1} → statement M
+is_join_near_spec = tie.close (tie.spec (λ c κs. search rules) (λ c κs. search rules) (λ c κs. search rules) returns)

@@ -5,7 +5,7 @@ use Rattle.line_join.proofs.Room.{extents-room}
 use Rattle.line_join.proofs.inner.start.Statement.{statement}
 use Rattle.line_join.proofs.inner.start.Tie as tie
 
-extents-requires : tie.Need-extents-requires
+extents-requires : tie.Need-extents-edges-requires
 extents-requires c κs = let t = c.requires in extents-room t.0 t.1.0 t.1.1
 
 returns : tie.Need-returns

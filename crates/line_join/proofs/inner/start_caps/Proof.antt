@@ -7,5 +7,5 @@ returns : tie.Need-returns
 unfolding start_caps_of
 returns c = c.cap.ensures
 
-pub start-caps-spec : {M : Type 1} → statement M
-start-caps-spec = tie.close (tie.spec (λ c κs. search rules) returns)
+pub start_caps_spec : {M : Type 1} → statement M
+start_caps_spec = tie.close (tie.spec (λ c κs. search rules) returns)

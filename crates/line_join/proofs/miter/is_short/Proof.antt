@@ -44,7 +44,7 @@ module _ (s : tie.Start) where
   most : Hold (of_z w64 (pos 2 *ℤ to_z w64 (of_z w64 s.args.width))) (pos 2 *ℤ s.args.width) 128
   most = hold-mul (literal 2 tt) (thin-held s.pre.1.1) tt
 
-abbrev start : tie.After-struct-told4 → tie.Start
+abbrev start : tie.After-struct_told-4-1 → tie.Start
 start c = c.before.before.before.before.before.before.before.before
 
 width-far : (c : tie.After-magnitude) → Hold (of_z w64 c.magnitude.result) (pos (nat_abs (wide (start c.before)))) (2 ^ 48 + 2 ^ 14)
@@ -52,57 +52,57 @@ width-far c =
     let d = dx (start c.before) in
     hold-as (c.magnitude.ensures ∙ ap (λ z. pos (nat_abs z)) d.is) (record { bound = d.small.bound }) tt
 
-sub-dx : tie.Need-overflow-sub-dx
+sub-dx : tie.Need-overflow_sub-dx
 sub-dx c = let t = c.before.before.before.before.requires in fits_sub (x-held t.1.0 tt) (x-held t.0 tt) tt
 
-sub-dy : tie.Need-overflow-sub-dy
+sub-dy : tie.Need-overflow_sub-dy
 sub-dy c = let t = (start c).requires in fits_sub (y-held t.1.0 tt) (y-held t.0 tt) tt
 
-mul_most : tie.Need-overflow-mul-most
+mul_most : tie.Need-overflow_mul-most
 mul_most c = fits-mul (literal 2 tt) (thin-held (start c).requires.1.1) tt
 
 magnitude-requires : tie.Need-magnitude-requires
 magnitude-requires c κs = let d = dx (start c) in rw d.is (within_more d.small (lit≤ tt))
 
-returns : tie.Need-returns
+returns : tie.Need-returns-then-most-magnitude
 returns c =
     let s = start c.before.before in
-    sym (too_wide s.args.mid s.args.tip s.args.width s.pre.1.1 (lt-hold (most s) (width-far c.before) c.if1.true))
+    sym (too_wide s.args.mid s.args.tip s.args.width s.pre.1.1 (lt-hold (most s) (width-far c.before) c.if-most-magnitude.true))
 
 magnitude-requires-2 : tie.Need-magnitude-requires-2
 magnitude-requires-2 c κs = let d = dy (start c.before.before) in rw d.is (within_more d.small (lit≤ tt))
 
-height-far : (c : tie.After-magnitude2) → Hold (of_z w64 c.magnitude2.result) (pos (nat_abs (tall (start c.before.before.before)))) (2 ^ 48 + 2 ^ 14)
+height-far : (c : tie.After-magnitude-2) → Hold (of_z w64 c.magnitude-2.result) (pos (nat_abs (tall (start c.before.before.before)))) (2 ^ 48 + 2 ^ 14)
 height-far c =
     let d = dy (start c.before.before.before) in
-    hold-as (c.magnitude2.ensures ∙ ap (λ z. pos (nat_abs z)) d.is) (record { bound = d.small.bound }) tt
+    hold-as (c.magnitude-2.ensures ∙ ap (λ z. pos (nat_abs z)) d.is) (record { bound = d.small.bound }) tt
 
-returns-2 : tie.Need-returns-2
+returns-2 : tie.Need-returns-then-most-magnitude-2
 returns-2 c =
     let s = start c.before.before.before.before in
-    sym (too-tall s.args.mid s.args.tip s.args.width s.pre.1.1 (lt-hold (most s) (height-far c.before) c.if2.true))
+    sym (too-tall s.args.mid s.args.tip s.args.width s.pre.1.1 (lt-hold (most s) (height-far c.before) c.if-most-magnitude-2.true))
 
 -- past both tests
-module _ (c : tie.Else2) where
+module _ (c : tie.Else-most-magnitude-2) where
   abbrev began : tie.Start
   began = start c.before.before.before.before
 
   short-x : Hold (of_z w64 (to_z w64 (of_z w64 began.args.tip.x) -ℤ to_z w64 (of_z w64 began.args.mid.x))) (wide began) 128
-  short-x = record { is = (dx began).is; small = passed began.pre.1.1 (lt-hold (most began) (width-far c.before.before.before) c.before.before.if1.false) }
+  short-x = record { is = (dx began).is; small = passed began.pre.1.1 (lt-hold (most began) (width-far c.before.before.before) c.before.before.if-most-magnitude.false) }
 
   short-y : Hold (of_z w64 (to_z w64 (of_z w64 began.args.tip.y) -ℤ to_z w64 (of_z w64 began.args.mid.y))) (tall began) 128
-  short-y = record { is = (dy began).is; small = passed began.pre.1.1 (lt-hold (most began) (height-far c.before) c.if2.false) }
+  short-y = record { is = (dy began).is; small = passed began.pre.1.1 (lt-hold (most began) (height-far c.before) c.if-most-magnitude-2.false) }
 
-mul-result : tie.Need-overflow-mul-result
+mul-result : tie.Need-overflow_mul-result
 mul-result c = fits-mul (short-x c) (short-x c) tt
 
-mul-result-2 : tie.Need-overflow-mul-result-2
+mul-result-2 : tie.Need-overflow_mul-result-2
 mul-result-2 c = fits-mul (short-y c) (short-y c) tt
 
-add-result : tie.Need-overflow-add-result
+add-result : tie.Need-overflow_add-result
 add-result c = fits-add (hold-mul (short-x c) (short-x c) tt) (hold-mul (short-y c) (short-y c) tt) tt
 
-returns-3 : tie.Need-returns-3
+returns-3 : tie.Need-returns
 unfolding reaches squared_length dot_product minus
 returns-3 c =
     let e = c.before in
@@ -111,8 +111,8 @@ returns-3 c =
       to_z-of_z {w = w64} {z = c.limit.result} (search rules) ∙ c.limit.ensures ∙ ap miter_limit (thin-held (began e).requires.1.1).is,
     )
 
-pub is-short-spec : {M : Type 1} → statement M
-is-short-spec =
+pub is_short_spec : {M : Type 1} → statement M
+is_short_spec =
     tie.close
     (tie.spec
     sub-dx

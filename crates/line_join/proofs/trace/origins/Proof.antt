@@ -5,20 +5,20 @@ use Rattle.line_join.proofs.Others.{not-crossed}
 use Rattle.line_join.proofs.trace.origins.Statement.{statement}
 use Rattle.line_join.proofs.trace.origins.Tie as tie
 
-returns : tie.Need-returns
-returns c = let a = c.before.before.args in ap (λ k. origins_by k a.left a.right) (sym c.enum_told.given.1)
+returns : tie.Need-returns-in-Miter
+returns c = let a = c.before.before.args in ap (λ k. origins_by k a.left a.right) (sym c.enum_told-1.given.1)
 
-returns-2 : tie.Need-returns-2
+returns-2 : tie.Need-returns-in-Bevel
 returns-2 c =
     let known = c.before.before in
     let a = known.before.before.args in
-    c.cut-origins.ensures ∙ ap (λ k. origins_by k a.left a.right) (sym known.kind.given.1)
+    c.cut_origins.ensures ∙ ap (λ k. origins_by k a.left a.right) (sym known.kind-1.given.1)
 
-returns-3 : tie.Need-returns-3
-returns-3 c = let a = c.before.before.args in c.no-crossings.ensures ∙ sym (not-crossed a.kind a.left a.right c.before.match.keys3)
+returns-3 : tie.Need-returns-in_default
+returns-3 c = let a = c.before.before.args in c.no_crossings.ensures ∙ sym (not-crossed a.kind-1 a.left a.right c.before.in_default.keys3)
 
-pub origins-spec : {M : Type 1} → statement M
-origins-spec =
+pub origins_spec : {M : Type 1} → statement M
+origins_spec =
     tie.close
     (tie.spec
     (λ c. search rules)

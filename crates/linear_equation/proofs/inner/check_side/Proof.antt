@@ -7,16 +7,16 @@ use Rattle.linear_equation.specs.Equation.{distance_of, is_on_side}
 use Rattle.linear_equation.proofs.inner.check_side.Statement.{statement}
 use Rattle.linear_equation.proofs.inner.check_side.Tie as tie
 
-far : (c : tie.After-distance) → to_z w64 (of_z w64 c.distance.result) ≡ distance_of c.before.args.equation c.before.args.point
-far c = to_z-of_z {z = c.distance.result} (search rules) ∙ c.distance.ensures
+far : (c : tie.After-distance-far) → to_z w64 (of_z w64 c.distance-far.result) ≡ distance_of c.before.args.equation c.before.args.point
+far c = to_z-of_z {w = w64} {z = c.distance-far.result} (search rules) ∙ c.distance-far.ensures
 
-returns : tie.Need-returns
+returns : tie.Need-returns-in-Left
 unfolding is_on_side
-returns c = rw (far c.before.before, c.enum_told.given.1)
+returns c = rw (far c.before.before, c.enum_told-1.given.1)
 
-returns-2 : tie.Need-returns-2
+returns-2 : tie.Need-returns-in-Right
 unfolding is_on_side
-returns-2 c = rw (far c.before.before, c.enum-told2.given.1)
+returns-2 c = rw (far c.before.before, c.enum_told-in-Right-1.given.1)
 
-pub check-side-spec : {M : Type 1} → statement M
-check-side-spec = tie.close (tie.spec (λ c κs. search rules) (λ c. search rules) (λ c. search rules) returns returns-2)
+pub check_side_spec : {M : Type 1} → statement M
+check_side_spec = tie.close (tie.spec (λ c κs. search rules) (λ c. search rules) (λ c. search rules) returns returns-2)

@@ -9,15 +9,15 @@ use Rattle.linear_equation.specs.Equation.{distance_of}
 use Rattle.linear_equation.proofs.inner.distance.Statement.{statement}
 use Rattle.linear_equation.proofs.inner.distance.Tie as tie
 
-dot : (c : tie.After-dot-product) → Hold (of_z w64 c.dot-product.result) (dot_product c.before.args.point c.before.args.equation.normal) (2 ^ 30)
-dot c = hold-as c.dot-product.ensures (within-dot c.before.requires.1 c.before.requires.0.normal_near) tt
+dot : (c : tie.After-dot_product) → Hold (of_z w64 c.dot_product.result) (dot_product c.before.before.args.point c.before.before.args.equation.normal) (2 ^ 30)
+dot c = hold-as c.dot_product.ensures (within-dot c.before.before.requires.1 c.before.before.requires.0.normal_near) tt
 
-sub-result : tie.Need-overflow-sub-result
+sub-result : tie.Need-overflow_sub-result
 sub-result c = let d = c.before.before in fits_sub (dot d) (hold d.before.requires.0.distance_within tt) tt
 
 returns : tie.Need-returns
 unfolding distance_of
 returns c = let d = c.before.before in (hold-sub (dot d) (hold d.before.requires.0.distance_within tt) tt).is
 
-pub distance-spec : {M : Type 1} → statement M
-distance-spec = tie.close (tie.spec (λ c κs. search rules) sub-result returns)
+pub distance_spec : {M : Type 1} → statement M
+distance_spec = tie.close (tie.spec (λ c κs. search rules) sub-result returns)

@@ -2,13 +2,13 @@ use borrow.Author.Rules.{rules}
 use Rattle.parallels.proofs.inner.across.Statement.{statement}
 use Rattle.parallels.proofs.inner.across.Tie as tie
 
-returns : tie.Need-returns
-returns c = rw c.before.enum_told.given.1 c.next-all.ensures
+returns : tie.Need-returns-in-Left
+returns c = rw c.before.enum_told-1.given.1 c.next_all.ensures
 
-returns-2 : tie.Need-returns-2
-returns-2 c = rw c.before.enum-told2.given.1 c.previous-all.ensures
+returns-2 : tie.Need-returns-in-Right
+returns-2 c = rw c.before.enum_told-in-Right-1.given.1 c.previous_all.ensures
 
-pub across-spec : {M : Type 1} → statement M
-across-spec =
+pub across_spec : {M : Type 1} → statement M
+across_spec =
     tie.close
     (tie.spec (λ c. search rules) (λ c κs. search rules) (λ c. search rules) (λ c κs. search rules) returns returns-2)

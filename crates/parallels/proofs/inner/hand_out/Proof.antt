@@ -4,7 +4,7 @@ use Rattle.parallels.proofs.inner.hand_out.Statement.{statement}
 use Rattle.parallels.proofs.inner.hand_out.Tie as tie
 
 returns : tie.Need-returns
-returns c = rw (c.sides.ensures, to_z-of_z c.before.before.ranges.accumulator)
+returns c = rw (c.sides-state.ensures, to_z-of_z c.before.before.before.ranges.accumulator)
 
-pub hand-out-spec : {M : Type 1} → statement M
-hand-out-spec = tie.close (tie.spec (λ c κs. search rules) returns)
+pub hand_out_spec : {M : Type 1} → statement M
+hand_out_spec = tie.close (tie.spec (λ c κs. search rules) returns)

@@ -13,63 +13,63 @@ use Rattle.parallels.specs.Parallels.{turned_back, opposite, thickness, plan_alo
 use Rattle.parallels.proofs.inner.plan_along.Statement.{statement}
 use Rattle.parallels.proofs.inner.plan_along.Tie as tie
 
-parameters-along-requires : tie.Need-parameters-along-requires
+parameters-along-requires : tie.Need-parameters_along-parallel-requires
 parameters-along-requires c κs = near-more c.requires.0 (lit≤ tt)
 
-sub-threshold : tie.Need-overflow-sub-threshold
+sub-threshold : tie.Need-overflow_sub-turned
 sub-threshold c = fits_neg (x-held c.before.before.before.requires.0 tt) tt
 
-parameters-along-requires-2 : tie.Need-parameters-along-requires-2
+parameters-along-requires-2 : tie.Need-parameters_along-perpendicular-requires
 parameters-along-requires-2 c κs = let d = c.before.before.before.before.requires.0 in near-held (y-held d tt) (hold-neg (x-held d tt) tt) (lit≤ tt) (lit≤ tt)
 
-mul-twice : tie.Need-overflow-mul-twice
+mul-twice : tie.Need-overflow_mul-twice
 mul-twice c = fits-mul (literal 2 tt) (hold c.before.before.before.before.before.requires.1 tt) tt
 
-mul-threshold : tie.Need-overflow-mul-threshold
+mul-threshold : tie.Need-overflow_mul-threshold
 mul-threshold c = let twice = hold-mul (literal 2 tt) (hold c.before.before.before.before.before.requires.1 tt) tt in fits-mul twice twice tt
 
-squared-length-requires : tie.Need-squared-length-requires
+squared-length-requires : tie.Need-squared_length-requires
 squared-length-requires c κs = near-more c.before.before.before.before.before.requires.0 (lit≤ tt)
 
 -- the squared length, in its bits
-length : (c : tie.After-squared-length) → Hold (of_z w64 c.squared-length.result) (squared_length c.before.before.before.before.before.before.args.d) (2 ^ 31)
+length : (c : tie.After-squared_length) → Hold (of_z w64 c.squared_length.result) (squared_length c.before.before.before.before.before.before.args.d) (2 ^ 31)
 unfolding squared_length
-length c = hold-as c.squared-length.ensures (within-dot c.before.before.before.before.before.before.requires.0 c.before.before.before.before.before.before.requires.0) tt
+length c = hold-as c.squared_length.ensures (within-dot c.before.before.before.before.before.before.requires.0 c.before.before.before.before.before.before.requires.0) tt
 
-mul-threshold-2 : tie.Need-overflow-mul-threshold-2
+mul-threshold-2 : tie.Need-overflow_mul-threshold-2
 mul-threshold-2 c =
     let twice = hold-mul (literal 2 tt) (hold c.before.before.before.before.before.before.requires.1 tt) tt in
     fits-mul (hold-mul twice twice tt) (length c) tt
 
 -- the major step, in its bits
-major-x : (c : tie.After-parameters-along) → Hold (of_z w64 c.parameters-along.result.major.x) (parameters_along c.before.args.d).major.x 1
-major-x c = rw c.parameters-along.ensures (x-held (major_unit c.before.args.d) tt)
+major-x : (c : tie.After-parameters_along-parallel) → Hold (of_z w64 c.parameters_along-parallel.result.major.x) (parameters_along c.before.args.d).major-1.x 1
+major-x c = rw c.parameters_along-parallel.ensures (x-held (major_unit c.before.args.d) tt)
 
-major-y : (c : tie.After-parameters-along) → Hold (of_z w64 c.parameters-along.result.major.y) (parameters_along c.before.args.d).major.y 1
-major-y c = rw c.parameters-along.ensures (y-held (major_unit c.before.args.d) tt)
+major-y : (c : tie.After-parameters_along-parallel) → Hold (of_z w64 c.parameters_along-parallel.result.major.y) (parameters_along c.before.args.d).major-1.y 1
+major-y c = rw c.parameters_along-parallel.ensures (y-held (major_unit c.before.args.d) tt)
 
-sub-t12 : tie.Need-overflow-sub-t12
+sub-t12 : tie.Need-overflow_sub-opposite
 sub-t12 c = fits_neg (major-x c.before.before.before.before.before.before.before.before) tt
 
-sub-t13 : tie.Need-overflow-sub-t13
+sub-t13 : tie.Need-overflow_sub-opposite-2
 sub-t13 c = fits_neg (major-y c.before.before.before.before.before.before.before.before.before.before) tt
 
-same-point-requires : tie.Need-same-point-requires
+same-point-requires : tie.Need-same_point-flip-requires
 same-point-requires c κs = search rules
 
 returns : tie.Need-returns
 unfolding plan_along thickness
 returns c =
-    let d = c.before.before.before.before.before.before.before.before.before.before.before.before.args.d in
-    let near = c.before.before.before.before.before.before.before.before.before.before.before.before.requires.0 in
-    let twice = hold-mul (literal 2 tt) (hold c.before.before.before.before.before.before.before.before.before.before.before.before.requires.1 tt) tt in
-    let along : c.before.before.before.before.before.before.before.before.before.before.before.parameters-along.result ≡ parameters_along d = c.before.before.before.before.before.before.before.before.before.before.before.parameters-along.ensures in
-    let across : c.before.before.before.before.before.before.before.parameters-along2.result ≡ parameters_along (turned_back d) = c.before.before.before.before.before.before.before.parameters-along2.ensures ∙ ap parameters_along (point-held (y-held near tt) (hold-neg (x-held near tt) tt)) in
-    let flip : c.same_point.result ≡ same_point c.before.before.before.before.before.before.before.parameters-along2.result.minor (opposite (parameters_along d).major) = c.same_point.ensures ∙ ap (same_point c.before.before.before.before.before.before.before.parameters-along2.result.minor) (point-held (hold-neg (major-x c.before.before.before.before.before.before.before.before.before.before.before) tt) (hold-neg (major-y c.before.before.before.before.before.before.before.before.before.before.before) tt)) in
-    rw (flip, (hold-mul (hold-mul twice twice tt) (length c.before.before.before.before.before.before) tt).is, across, along)
+    let d = c.before.before.before.before.before.before.before.before.before.before.before.before.before.args.d in
+    let near = c.before.before.before.before.before.before.before.before.before.before.before.before.before.requires.0 in
+    let twice = hold-mul (literal 2 tt) (hold c.before.before.before.before.before.before.before.before.before.before.before.before.before.requires.1 tt) tt in
+    let along : c.before.before.before.before.before.before.before.before.before.before.before.before.parameters_along-parallel.result ≡ parameters_along d = c.before.before.before.before.before.before.before.before.before.before.before.before.parameters_along-parallel.ensures in
+    let across : c.before.before.before.before.before.before.before.before.parameters_along-perpendicular.result ≡ parameters_along (turned_back d) = c.before.before.before.before.before.before.before.before.parameters_along-perpendicular.ensures ∙ ap parameters_along (point-held (y-held near tt) (hold-neg (x-held near tt) tt)) in
+    let flip : c.same_point-flip.result ≡ same_point c.before.before.before.before.before.before.before.before.parameters_along-perpendicular.result.minor (opposite (parameters_along d).major-1) = c.same_point-flip.ensures ∙ ap (same_point c.before.before.before.before.before.before.before.before.parameters_along-perpendicular.result.minor) (point-held (hold-neg (major-x c.before.before.before.before.before.before.before.before.before.before.before.before) tt) (hold-neg (major-y c.before.before.before.before.before.before.before.before.before.before.before.before) tt)) in
+    rw (flip, (hold-mul (hold-mul twice twice tt) (length c.before.before.before.before.before.before.before) tt).is, across, along)
 
-pub plan-along-spec : {M : Type 1} → statement M
-plan-along-spec =
+pub plan_along_spec : {M : Type 1} → statement M
+plan_along_spec =
     tie.close
     (tie.spec
     parameters-along-requires

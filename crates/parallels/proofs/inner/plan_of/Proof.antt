@@ -8,39 +8,39 @@ use Rattle.parallels.specs.Parallels.{plan_along, plan_of, aimed}
 use Rattle.parallels.proofs.inner.plan_of.Statement.{statement}
 use Rattle.parallels.proofs.inner.plan_of.Tie as tie
 
-same-point-requires : tie.Need-same-point-requires
+same-point-requires : tie.Need-same_point-requires
 same-point-requires c κs = search rules
 
-plan-along-requires : tie.Need-plan-along-requires
+plan-along-requires : tie.Need-plan_along-requires
 plan-along-requires c κs =
-    let w = hold c.before.before.requires.1 tt in
+    let w = hold c.before.before.before.before.requires.1 tt in
     (record { x_near = record { bound = lit≤ tt }; y_near = record { bound = lit≤ tt } }, rw w.is w.small)
 
-returns : tie.Need-returns
+returns : tie.Need-returns-then-same_point
 unfolding plan_of aimed
 returns c =
-    let a = c.before.before.before.args in
-    let w = hold c.before.before.before.requires.1 tt in
-    let same = sym c.before.before.same_point.ensures ∙ c.before.if1.true in
-    simp same (c.plan-along.ensures ∙ ap (λ w. plan_along _ w a.offset) w.is)
+    let a = c.before.before.before.before.before.args in
+    let w = hold c.before.before.before.before.before.requires.1 tt in
+    let same = sym c.before.before.same_point.ensures ∙ c.before.if-same_point.true in
+    simp same (c.plan_along.ensures ∙ ap (λ w. plan_along _ w a.offset) w.is)
 
 delta-requires : tie.Need-delta-requires
-delta-requires c κs = line-near-more c.before.before.requires.0 (lit≤ tt)
+delta-requires c κs = line-near-more c.before.before.before.before.requires.0 (lit≤ tt)
 
-plan-along-requires-2 : tie.Need-plan-along-requires-2
+plan-along-requires-2 : tie.Need-plan_along-requires-2
 plan-along-requires-2 c κs =
-    let w = hold c.before.before.before.requires.1 tt in
-    (rw c.delta.ensures (near-delta c.before.before.before.requires.0), rw w.is w.small)
+    let w = hold c.before.before.before.before.before.requires.1 tt in
+    (rw c.delta.ensures (near-delta c.before.before.before.before.before.requires.0), rw w.is w.small)
 
-returns-2 : tie.Need-returns-2
+returns-2 : tie.Need-returns
 unfolding plan_of aimed
 returns-2 c =
-    let a = c.before.before.before.before.args in
-    let w = hold c.before.before.before.before.requires.1 tt in
-    let same = sym c.before.before.before.same_point.ensures ∙ c.before.before.if1.false in
-    simp same (c.plan-along2.ensures ∙ (ap (λ w. plan_along c.before.delta.result w a.offset) w.is ∙ ap (λ d. plan_along d a.width a.offset) c.before.delta.ensures))
+    let a = c.before.before.before.before.before.before.args in
+    let w = hold c.before.before.before.before.before.before.requires.1 tt in
+    let same = sym c.before.before.before.same_point.ensures ∙ c.before.before.if-same_point.false in
+    simp same (c.plan_along-2.ensures ∙ (ap (λ w. plan_along c.before.delta.result w a.offset) w.is ∙ ap (λ d. plan_along d a.width a.offset) c.before.delta.ensures))
 
-pub plan-of-spec : {M : Type 1} → statement M
-plan-of-spec =
+pub plan_of_spec : {M : Type 1} → statement M
+plan_of_spec =
     tie.close
     (tie.spec same-point-requires plan-along-requires returns delta-requires plan-along-requires-2 returns-2)

@@ -3,11 +3,11 @@ use mir.Facts.{to_z-of_z}
 use Rattle.parallels.proofs.inner.sides.Statement.{statement}
 use Rattle.parallels.proofs.inner.sides.Tie as tie
 
-returns : tie.Need-returns
-returns c = rw (c.enum_told.given.1, to_z-of_z c.before.before.ranges.accumulator)
+returns : tie.Need-returns-in-Left
+returns c = rw (c.enum_told-1.given.1, to_z-of_z c.before.before.ranges.accumulator)
 
-returns-2 : tie.Need-returns-2
-returns-2 c = rw (c.enum-told2.given.1, to_z-of_z c.before.before.ranges.accumulator)
+returns-2 : tie.Need-returns-in-Right
+returns-2 c = rw (c.enum_told-in-Right-1.given.1, to_z-of_z c.before.before.ranges.accumulator)
 
-pub sides-spec : {M : Type 1} → statement M
-sides-spec = tie.close (tie.spec (λ c. search rules) (λ c. search rules) returns returns-2)
+pub sides_spec : {M : Type 1} → statement M
+sides_spec = tie.close (tie.spec (λ c. search rules) (λ c. search rules) returns returns-2)

@@ -7,13 +7,13 @@ use Rattle.parallels.proofs.Plans.{ready-fresh}
 use Rattle.parallels.proofs.inner.start.Statement.{statement}
 use Rattle.parallels.proofs.inner.start.Tie as tie
 
-next-parallel-requires : tie.Need-next-parallel-requires
+next-parallel-requires : tie.Need-next_parallel-skipped-requires
 next-parallel-requires c κs = let q = c.before.before.requires in (q.0, ready-fresh c.swap.result q.0 q.1)
 
-add-accumulator : tie.Need-overflow-add-accumulator
+add-accumulator : tie.Need-overflow_add-accumulator
 add-accumulator c = let p = sized c.before.before.before.before.before.before.requires.0.along_fair in fits-add (hold p.loss_small tt) (hold p.gain_small tt) tt
 
-div-accumulator : tie.Need-nonzero-div-accumulator
+div-accumulator : tie.Need-nonzero_div-accumulator
 div-accumulator c =
     let p = sized c.before.before.before.before.before.before.requires.0.along_fair in
     (lit< tt, fits-quot (hold-add (hold p.loss_small tt) (hold p.gain_small tt) tt) (literal 2 tt) tt)
@@ -21,7 +21,7 @@ div-accumulator c =
 returns : tie.Need-returns
 unfolding parallels_start
 returns c =
-    let p = sized c.before.before.before.before.before.before.before.requires.0.along_fair in
+    let p = sized c.before.before.before.before.before.before.before.before.requires.0.along_fair in
     cc (hold-quot (hold-add (hold p.loss_small tt) (hold p.gain_small tt) tt) (literal 2 tt) tt).is
 
 pub start_spec : {M : Type 1} → statement M

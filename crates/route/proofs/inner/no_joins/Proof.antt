@@ -10,7 +10,7 @@ use Rattle.route.proofs.inner.no_joins.Tie as tie
 
 returns : tie.Need-returns
 unfolding no_joins
-returns c = ap {B = Joins} (λ j. record { closed = false; count = 0; near = 0; joins = replicate 256 j }) c.no_join.ensures
+returns c = ap {B = Joins} (λ j. record { closed = false; count = 0; near = 0; joins = replicate 256 j }) c.no_join-none.ensures
 
-pub no-joins-spec : {M : Type 1} → statement M
-no-joins-spec = tie.close (tie.spec (λ c κs. search rules) returns)
+pub no_joins_spec : {M : Type 1} → statement M
+no_joins_spec = tie.close (tie.spec (λ c κs. search rules) returns)

@@ -24,5 +24,5 @@ returns : tie.Need-returns
 unfolding row_at
 returns c = (hold-add (first c.before.before) (place c.before.before) tt).is
 
-pub row-at-spec : {M : Type 1} → statement M
-row-at-spec = tie.close (tie.spec (λ c. fits (2 * line_limit + 1) (place c).small tt) (λ c. fits-add (first c.before.before) (place c.before.before) tt) returns)
+pub row_at_spec : {M : Type 1} → statement M
+row_at_spec = tie.close (tie.spec (λ c. fits (2 * line_limit + 1) (place c).small tt) (λ c. fits-add (first c.before.before) (place c.before.before) tt) returns)

@@ -29,16 +29,16 @@ use Rattle.route.proofs.Offers.{added-few, offer-none, offer-on, offer-stop, off
 use Rattle.route.proofs.inner.row_board.Statement.{statement}
 use Rattle.route.proofs.inner.row_board.Tie as tie
 
-abbrev invariant-loop : tie.invariant-loop
+abbrev invariant-loop : tie.invariant-loop-k
 invariant-loop row route count closed n board₀ k₀ board k =
     (k ≤ n) × ((n ≡ segments_in route)
     × ((board.count ≤ board_runs) × (offer_all board (list_from (span_in route (to_z w64 row)) k (n - k)) ≡ board_on route (to_z w64 row))))
 
-abbrev decreases-loop : tie.decreases-loop
+abbrev decreases-loop : tie.decreases-loop-k
 decreases-loop row route count closed n board₀ k₀ board k = n - k
 
 -- the loop's start, and the spans by their place, with the row as the calls have it
-module _ (c : tie.After-segments-of invariant-loop decreases-loop) where
+module _ (c : tie.After-segments_of-n invariant-loop decreases-loop) where
   abbrev route : Joins
   route = c.before.args.t1
 
@@ -49,25 +49,25 @@ module _ (c : tie.After-segments-of invariant-loop decreases-loop) where
   same_row : board_on route (to_z w64 (of_z w64 c.before.args.row)) ≡ board_on route c.before.args.row
   same_row = ap (board_on route) (to_z-of_z c.before.ranges.row)
 
-loop-holds : tie.Need-loop-init invariant-loop decreases-loop
+loop-holds : tie.Need-loop-k-init invariant-loop decreases-loop
 unfolding board_on board_of
 loop-holds c =
-    let e = c.empty-board.ensures in
-    let n = c.before.segments-of.ensures in
-    let all : c.before.segments-of.result - 0 ≡ segments_in (route c.before) = omega (arith, n) in
+    let e = c.empty_board-board.ensures in
+    let n = c.before.segments_of-n.ensures in
+    let all : c.before.segments_of-n.result - 0 ≡ segments_in (route c.before) = omega (arith, n) in
     (omega arith, (n, (rw e (lit≤ tt), rw (e, all))))
 
 -- ---- in a turn of the loop
 
-module _ (c : tie.In-loop invariant-loop decreases-loop) where
-  abbrev began : tie.After-segments-of invariant-loop decreases-loop
+module _ (c : tie.In-loop-k invariant-loop decreases-loop) where
+  abbrev began : tie.After-segments_of-n invariant-loop decreases-loop
   began = c.before.before.before
 
   abbrev place : ℕ
-  place = c.before.loop.k
+  place = c.before.loop-k.k
 
   inner : place < segments_in (route began)
-  inner = omega (arith, c.loop-test.true, c.before.loop.invariant.1.0)
+  inner = omega (arith, c.loop-k-test.true, c.before.loop-k.invariant.1.0)
 
   inside : (place < 256) × (end_place (route began).closed (route began).count place < 256)
   inside = ends-in-array began.before.pre inner
@@ -77,46 +77,46 @@ module _ (c : tie.In-loop invariant-loop decreases-loop) where
       offer_all c.before.loop.board (lit-at began place ∷ list_from (lit-at began) (place + 1) (n - (place + 1))) ≡ board_on (route began) (to_z w64 (of_z w64 began.before.args.row))
   left = ap (offer_all c.before.loop.board) (sym (list-next (lit-at began) began.segments-of.result place c.loop-test.true)) ∙ c.before.loop.invariant.1.1.1
 
-end-place-requires : tie.Need-end-place-requires invariant-loop decreases-loop
+end-place-requires : tie.Need-end_place-next-requires invariant-loop decreases-loop
 end-place-requires c κs = (place_inside (route (began c)).closed (inner c)).0
 
 -- the span of the turn's segment, and what the offer answers
-lit : (c : tie.After-span invariant-loop decreases-loop) → let l = c.before.before.before.before in c.span.result ≡ lit-at (began l) (place l)
+lit : (c : tie.After-span-lit invariant-loop decreases-loop) → let l = c.before.before.before.before in c.span-lit.result ≡ lit-at (began l) (place l)
 lit c =
     let l = c.before.before.before.before in
-    c.span.ensures ∙ ap (λ s. span_on s (to_z w64 (of_z w64 (began l).before.args.row))) (segment-made (route (began l)) (place l) c.before.before.before.end-place.ensures)
+    c.span-lit.ensures ∙ ap (λ s. span_on s (to_z w64 (of_z w64 (began l).before.args.row))) (segment-made (route (began l)) (place l) c.before.before.before.end_place-next.ensures)
 
-answer : (c : tie.After-offer-sound invariant-loop decreases-loop) → let l = c.before.before.before.before.before.before.before in
-    c.offer-sound.result ≡ added l.before.loop.board (lit-at (began l) (place l))
-answer c = c.offer-sound.ensures ∙ ap (added c.before.before.before.before.before.before.before.before.loop.board) (lit c.before.before.before)
+answer : (c : tie.After-offer_sound-answer invariant-loop decreases-loop) → let l = c.before.before.before.before.before.before.before in
+    c.offer_sound-answer.result ≡ added l.before.loop-k.board (lit-at (began l) (place l))
+answer c = c.offer_sound-answer.ensures ∙ ap (added c.before.before.before.before.before.before.before.before.loop-k.board) (lit c.before.before.before)
 
-span-requires : tie.Need-span-requires invariant-loop decreases-loop
+span-requires : tie.Need-span-lit-requires invariant-loop decreases-loop
 span-requires c κs =
     let l = c.before.before.before in
-    rw (segment-made (route (began l)) (place l) c.before.before.end-place.ensures) (segment-near (began l).before.requires (inner l))
+    rw (segment-made (route (began l)) (place l) c.before.before.end_place-next.ensures) (segment-near (began l).before.requires (inner l))
 
-is-empty-requires : tie.Need-is-empty-requires invariant-loop decreases-loop
+is-empty-requires : tie.Need-is_empty-requires invariant-loop decreases-loop
 is-empty-requires c κs = search rules
 
-offer-sound-requires : tie.Need-offer-sound-requires invariant-loop decreases-loop
-offer-sound-requires c κs = c.before.before.before.before.before.before.before.loop.invariant.1.1.0
+offer-sound-requires : tie.Need-offer_sound-answer-requires invariant-loop decreases-loop
+offer-sound-requires c κs = c.before.before.before.before.before.before.before.loop-k.invariant.1.1.0
 
-returns : tie.Need-returns invariant-loop decreases-loop
+returns : tie.Need-returns-then-answer-ne0 invariant-loop decreases-loop
 returns c =
     let o = c.before.before in
     let l = o.before.before.before.before.before.before.before in
-    answer o ∙ sym (offer-stop l.before.loop.board _ _ (λ e. c.if2.true (ap (λ a. a.refusal) (answer o) ∙ e))) ∙ left l ∙ same_row (began l)
+    answer o ∙ sym (offer-stop l.before.loop-k.board _ _ (λ e. c.if-answer-ne0.true (ap (λ a. a.refusal) (answer o) ∙ e))) ∙ left l ∙ same_row (began l)
 
 -- where the two ways of a turn meet: the board is as it was, the span being empty; or it is that of the answer
-module _ (c : tie.Joined1 invariant-loop decreases-loop) where
-  abbrev turn : tie.In-loop invariant-loop decreases-loop
+module _ (c : tie.Joined-is_empty invariant-loop decreases-loop) where
+  abbrev turn : tie.In-loop-k invariant-loop decreases-loop
   turn = c.before.before.before.before.before.before
 
   abbrev held : Board
-  held = turn.before.loop.board
+  held = turn.before.loop-k.board
 
   abbrev rest : List Span
-  rest = list_from (lit-at (began turn)) (place turn + 1) ((began turn).segments-of.result - (place turn + 1))
+  rest = list_from (lit-at (began turn)) (place turn + 1) ((began turn).segments_of-n.result - (place turn + 1))
 
   -- the board that a turn leaves
   record Goes (b : Board) : Type 0 where
@@ -124,36 +124,36 @@ module _ (c : tie.Joined1 invariant-loop decreases-loop) where
     on : offer_all b rest ≡ board_on (route (began turn)) (to_z w64 (of_z w64 (began turn).before.args.row))
 
   kept : is_empty (lit-at (began turn) (place turn)) ≡ true → Goes held
-  kept e = record { few = turn.before.loop.inv.1.1.0; on = sym (offer-empty held _ rest e) ∙ left turn }
+  kept e = record { few = turn.before.loop-k.inv.1.1.0; on = sym (offer-empty held _ rest e) ∙ left turn }
 
-  taken : (added held (lit-at (began turn) (place turn))).refusal ≡ 0 → Goes (added held (lit-at (began turn) (place turn))).board
-  taken e = record { few = added-few held _ turn.before.loop.inv.1.1.0; on = sym (offer-on held _ rest e) ∙ left turn }
+  taken : (added held (lit-at (began turn) (place turn))).refusal ≡ 0 → Goes (added held (lit-at (began turn) (place turn))).board-1
+  taken e = record { few = added-few held _ turn.before.loop-k.inv.1.1.0; on = sym (offer-on held _ rest e) ∙ left turn }
 
-  empty : c.before.is-empty.result ≡ is_empty (lit-at (began turn) (place turn))
-  empty = c.before.is-empty.ensures ∙ ap is_empty (lit c.before.before)
+  empty : c.before.is_empty.result ≡ is_empty (lit-at (began turn) (place turn))
+  empty = c.before.is_empty.ensures ∙ ap is_empty (lit c.before.before)
 
-  goes : Goes c.if1.board
+  goes : Goes c.if-is_empty.board
   goes =
       ⊎_elim (λ w. subst Goes (sym w.1) (kept (sym empty ∙ w.0.taken)))
       (λ w.
       let a = w.1.ensures ∙ ap (added held) (lit c.before.before) in
-      subst Goes (sym (w.5 ∙ ap (λ a. a.board) a)) (taken (sym (ap (λ a. a.refusal) a) ∙ w.3.left)))
-      c.if1.branch
+      subst Goes (sym (w.5 ∙ ap (λ a. a.board-1) a)) (taken (sym (ap (λ a. a.refusal) a) ∙ w.3.left)))
+      c.if-is_empty.branch
 
-loop-again : tie.Need-loop-preserved invariant-loop decreases-loop
-loop-again c = (omega arith, ((turn c).before.loop.invariant.1.0, ((goes c).few, (goes c).on)))
+loop-again : tie.Need-loop-k-preserved invariant-loop decreases-loop
+loop-again c = (omega arith, ((turn c).before.loop-k.invariant.1.0, ((goes c).few, (goes c).on)))
 
-returns-2 : tie.Need-returns-2 invariant-loop decreases-loop
+returns-2 : tie.Need-returns invariant-loop decreases-loop
 returns-2 c =
     let l = c.before in
     let s = l.before.before in
-    sym (ap (offer_all l.loop.board) (list-end (lit-at s) s.segments-of.result l.loop.k (omega arith)) ∙ offer-none l.loop.board) ∙ l.loop.invariant.1.1.1 ∙ same_row s
+    sym (ap (offer_all l.loop-k.board) (list-end (lit-at s) s.segments_of-n.result l.loop-k.k (omega arith)) ∙ offer-none l.loop-k.board) ∙ l.loop-k.invariant.1.1.1 ∙ same_row s
 
-add-k : tie.Need-overflow-add-k invariant-loop decreases-loop
+add-k : tie.Need-overflow_add-k invariant-loop decreases-loop
 add-k c = omega (arith, (inside c.before.before.before.before.before.before).0)
 
-pub row-board-spec : {M : Type 1} → statement M
-row-board-spec =
+pub row_board_spec : {M : Type 1} → statement M
+row_board_spec =
     tie.close
     (tie.spec
     invariant-loop
@@ -164,8 +164,8 @@ row-board-spec =
     end-place-requires
     (λ c. omega (arith, (inside c.before).0))
     (λ c. (inside c.before).0)
-    (λ c. omega (arith, (inside c.before.before).1, c.before.end-place.ensures))
-    (λ c. omega (arith, (inside c.before.before).1, c.before.end-place.ensures))
+    (λ c. omega (arith, (inside c.before.before).1, c.before.end_place-next.ensures))
+    (λ c. omega (arith, (inside c.before.before).1, c.before.end_place-next.ensures))
     span-requires
     is-empty-requires
     offer-sound-requires

@@ -15,22 +15,22 @@ use Rattle.route.proofs.Ranges.{count_small}
 use Rattle.route.proofs.inner.rows_refusal.Statement.{statement}
 use Rattle.route.proofs.inner.rows_refusal.Tie as tie
 
-abbrev invariant-loop : tie.invariant-loop
+abbrev invariant-loop : tie.invariant-loop-i
 invariant-loop route rows n i₀ i = (i ≤ n) × ((n ≡ row_count rows) × (first_of (list_from (room_at route rows) i (n - i)) ≡ rows_refusal route rows))
 
-abbrev decreases-loop : tie.decreases-loop
+abbrev decreases-loop : tie.decreases-loop-i
 decreases-loop route rows n i₀ i = n - i
 
-loop-holds : tie.Need-loop-init invariant-loop decreases-loop
+loop-holds : tie.Need-loop-i-init invariant-loop decreases-loop
 unfolding rows_refusal
 loop-holds c =
-    let n = c.row_count.ensures in
-    let all : c.row_count.result - 0 ≡ row_count c.before.args.rows = omega (arith, n) in
+    let n = c.row_count-n.ensures in
+    let all : c.row_count-n.result - 0 ≡ row_count c.before.args.rows = omega (arith, n) in
     (omega arith, (n, rw all))
 
 -- ---- in a turn of the loop
 
-module _ (c : tie.In-loop invariant-loop decreases-loop) where
+module _ (c : tie.In-loop-i invariant-loop decreases-loop) where
   abbrev start : tie.Start invariant-loop decreases-loop
   start = c.before.before.before
 
@@ -38,45 +38,45 @@ module _ (c : tie.In-loop invariant-loop decreases-loop) where
   room = room_at start.args.route start.args.rows
 
   abbrev place : ℕ
-  place = c.before.loop.i
+  place = c.before.loop-i.i
 
   abbrev rest : ℕ
-  rest = first_of (list_from room (place + 1) (c.before.before.row_count.result - (place + 1)))
+  rest = first_of (list_from room (place + 1) (c.before.before.row_count-n.result - (place + 1)))
 
   inner : place < row_count start.args.rows
-  inner = omega (arith, c.loop-test.true, c.before.loop.invariant.1.0)
+  inner = omega (arith, c.loop-i-test.true, c.before.loop-i.invariant.1.0)
 
   -- the rows that are left begin with that of the place
   left : or_else (room place) rest ≡ rows_refusal start.args.route start.args.rows
   unfolding first_of
-  left = ap first_of (sym (list-next room c.before.before.row_count.result place c.loop-test.true)) ∙ c.before.loop.invariant.1.1
+  left = ap first_of (sym (list-next room c.before.before.row_count-n.result place c.loop-i-test.true)) ∙ c.before.loop-i.invariant.1.1
 
-answer : (c : tie.After-row-board invariant-loop decreases-loop) → let l = c.before.before in c.row-board.result.refusal ≡ room l (place l)
+answer : (c : tie.After-row_board-answer invariant-loop decreases-loop) → let l = c.before.before in c.row_board-answer.result.refusal ≡ room l (place l)
 answer c =
     let r = c.before in
-    ap (λ a. a.refusal) (c.row-board.ensures ∙ ap (board_on (start r.before).args.route) (to_z-of_z {w = w64} {z = r.row_at.result} (search rules) ∙ r.row_at.ensures))
+    ap (λ a. a.refusal) (c.row_board-answer.ensures ∙ ap (board_on (start r.before).args.route) (to_z-of_z {w = w64} {z = r.row_at.result} (search rules) ∙ r.row_at.ensures))
 
-returns : tie.Need-returns invariant-loop decreases-loop
+returns : tie.Need-returns-then-answer-ne0 invariant-loop decreases-loop
 returns c =
     let b = c.before.before in
     let l = b.before.before in
-    answer b ∙ sym (or-stopped (room l (place l)) (rest l) (λ e. c.if1.true (answer b ∙ e))) ∙ left l
+    answer b ∙ sym (or-stopped (room l (place l)) (rest l) (λ e. c.if-answer-ne0.true (answer b ∙ e))) ∙ left l
 
-loop-again : tie.Need-loop-preserved invariant-loop decreases-loop
+loop-again : tie.Need-loop-i-preserved invariant-loop decreases-loop
 loop-again c =
     let b = c.before.before in
     let l = b.before.before in
-    (omega arith, (l.before.loop.invariant.1.0, sym (or-free (room l (place l)) (rest l) (sym (answer b) ∙ c.if1.false)) ∙ left l))
+    (omega arith, (l.before.loop-i.invariant.1.0, sym (or-free (room l (place l)) (rest l) (sym (answer b) ∙ c.if-answer-ne0.false)) ∙ left l))
 
-returns-2 : tie.Need-returns-2 invariant-loop decreases-loop
+returns-2 : tie.Need-returns invariant-loop decreases-loop
 unfolding first_of
 returns-2 c =
     let l = c.before in
     let s = l.before.before in
-    sym (ap first_of (list-end (room_at s.args.route s.args.rows) l.before.row_count.result l.loop.i (omega arith))) ∙ l.loop.invariant.1.1
+    sym (ap first_of (list-end (room_at s.args.route s.args.rows) l.before.row_count-n.result l.loop-i.i (omega arith))) ∙ l.loop-i.invariant.1.1
 
-pub rows-refusal-spec : {M : Type 1} → statement M
-rows-refusal-spec =
+pub rows_refusal_spec : {M : Type 1} → statement M
+rows_refusal_spec =
     tie.close
     (tie.spec
     invariant-loop

@@ -6,17 +6,17 @@ use Rattle.shapes.proofs.Widths.{thin-held, thin-back}
 use Rattle.route_joins.proofs.inner.bend_at.Statement.{statement}
 use Rattle.route_joins.proofs.inner.bend_at.Tie as tie
 
-from-points-requires : tie.Need-from-points-requires
+from-points-requires : tie.Need-from_points-requires
 from-points-requires c κs =
     let s = c.before.before.before in
     let near = point_near s.requires.0.near in (
-      rw c.before.before.point_at.ensures (near s.args.before),
-      (rw c.before.point-at2.ensures (near s.args.i), (rw c.point-at3.ensures (near s.args.after), thin-back s.requires.0.thin)),
+      rw c.before.before.point_at-a.ensures (near s.args.before),
+      (rw c.before.point_at-b.ensures (near s.args.i), (rw c.point_at-c.ensures (near s.args.after), thin-back s.requires.0.thin)),
     )
 
 returns : tie.Need-returns
 unfolding bend_at
 returns c = cc (thin-held c.before.before.before.before.requires.0.thin).is
 
-pub bend-at-spec : {M : Type 1} → statement M
-bend-at-spec = tie.close (tie.spec (λ c κs. search rules) (λ c κs. search rules) (λ c κs. search rules) from-points-requires returns)
+pub bend_at_spec : {M : Type 1} → statement M
+bend_at_spec = tie.close (tie.spec (λ c κs. search rules) (λ c κs. search rules) (λ c κs. search rules) from-points-requires returns)

@@ -11,34 +11,34 @@ use Rattle.shapes.proofs.Widths.{thin-held, thin-back}
 use Rattle.route_joins.proofs.inner.closed_join.Statement.{statement}
 use Rattle.route_joins.proofs.inner.closed_join.Tie as tie
 
-add-if1 : tie.Need-overflow-add-if1
-add-if1 c = search (rules, c.point-count.ensures, count-within c.before.args.coordinates.now)
+add-if1 : tie.Need-overflow_add-count
+add-if1 c = search (rules, c.point_count-count.ensures, count-within c.before.args.coordinates.now)
 
 start-requires : tie.Need-start-requires
 start-requires c κs =
     let d = c.before.before.before.before.requires.0 in
-    (rw c.before.point_at.ensures (point_near d.near 0), (rw c.point-at2.ensures (point_near d.near 1), thin-back d.thin))
+    (rw c.before.point_at-a.ensures (point_near d.near 0), (rw c.point_at-b.ensures (point_near d.near 1), thin-back d.thin))
 
-returns : tie.Need-returns
+returns : tie.Need-returns-then-count-i-eq2
 unfolding closed_join
 returns c =
     let p = c.before in
     let counted = p.before.before.before in
-    rw (sym counted.point-count.ensures, eq-eqb (counted.point-count.result + counted.before.args.i) 2 p.before.before.if1.true) (cc (thin-held counted.before.requires.0.thin).is)
+    rw (sym counted.point_count-count.ensures, eq-eqb (counted.point_count-count.result + counted.before.args.i) 2 p.before.before.if-count-i-eq2.true) (cc (thin-held counted.before.requires.0.thin).is)
 
-bend-at-requires : tie.Need-bend-at-requires
+bend-at-requires : tie.Need-bend_at-requires
 bend-at-requires c κs =
     let s = c.before.before.before.before in
-    let n = c.before.before.before.point-count.ensures in
+    let n = c.before.before.before.point_count-count.ensures in
     let i = s.requires.1 in
-    (drawable-back s.requires.0, (rw (c.before.place-before.ensures, n) (before-inside i), (i, rw (c.place_after.ensures, n) (after-inside i))))
+    (drawable-back s.requires.0, (rw (c.before.place_before-before.ensures, n) (before-inside i), (i, rw (c.place_after-after.ensures, n) (after-inside i))))
 
-returns-2 : tie.Need-returns-2
+returns-2 : tie.Need-returns
 unfolding closed_join
 returns-2 c =
     let p = c.before in
     let counted = p.before.before.before in
-    rw (sym counted.point-count.ensures, ne_eqb (counted.point-count.result + counted.before.args.i) 2 p.before.before.if1.false) (cc (thin-held counted.before.requires.0.thin).is)
+    rw (sym counted.point_count-count.ensures, ne_eqb (counted.point_count-count.result + counted.before.args.i) 2 p.before.before.if-count-i-eq2.false) (cc (thin-held counted.before.requires.0.thin).is)
 
-pub closed-join-spec : {M : Type 1} → statement M
-closed-join-spec = tie.close (tie.spec (λ c κs. search rules) add-if1 (λ c κs. search rules) (λ c κs. search rules) start-requires returns (λ c κs. search rules) (λ c κs. search rules) bend-at-requires returns-2)
+pub closed_join_spec : {M : Type 1} → statement M
+closed_join_spec = tie.close (tie.spec (λ c κs. search rules) add-if1 (λ c κs. search rules) (λ c κs. search rules) start-requires returns (λ c κs. search rules) (λ c κs. search rules) bend-at-requires returns-2)

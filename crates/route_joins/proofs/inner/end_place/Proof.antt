@@ -4,13 +4,13 @@ use Rattle.route_joins.specs.Joins.{end_place}
 use Rattle.route_joins.proofs.inner.end_place.Statement.{statement}
 use Rattle.route_joins.proofs.inner.end_place.Tie as tie
 
-returns : tie.Need-returns
+returns : tie.Need-returns-then-closed
 unfolding end_place
-returns c = rw c.before.if1.true c.place_after.ensures
+returns c = rw c.before.if-closed.true c.place_after.ensures
 
-returns-2 : tie.Need-returns-2
+returns-2 : tie.Need-returns
 unfolding end_place
-returns-2 c = rw c.if1.false
+returns-2 c = rw c.if-closed.false
 
-pub end-place-spec : {M : Type 1} → statement M
-end-place-spec = tie.close (tie.spec (λ c κs. search rules) returns (λ c. search rules) returns-2)
+pub end_place_spec : {M : Type 1} → statement M
+end_place_spec = tie.close (tie.spec (λ c κs. search rules) returns (λ c. search rules) returns-2)

@@ -6,13 +6,13 @@ use Rattle.route_joins.specs.Joins.{join_count}
 use Rattle.route_joins.proofs.inner.join_count.Statement.{statement}
 use Rattle.route_joins.proofs.inner.join_count.Tie as tie
 
-returns : tie.Need-returns
+returns : tie.Need-returns-then-count-ge2
 unfolding join_count
-returns c = rw (sym c.before.point-count.ensures, le-leb 2 c.before.point-count.result c.if1.true)
+returns c = rw (sym c.before.point_count-count.ensures, le-leb 2 c.before.point_count-count.result c.if-count-ge2.true)
 
-returns-2 : tie.Need-returns-2
+returns-2 : tie.Need-returns
 unfolding join_count
-returns-2 c = rw (sym c.before.point-count.ensures, lt-leb 2 c.before.point-count.result c.if1.false)
+returns-2 c = rw (sym c.before.point_count-count.ensures, lt-leb 2 c.before.point_count-count.result c.if-count-ge2.false)
 
-pub join-count-spec : {M : Type 1} → statement M
-join-count-spec = tie.close (tie.spec (λ c κs. search rules) returns returns-2)
+pub join_count_spec : {M : Type 1} → statement M
+join_count_spec = tie.close (tie.spec (λ c κs. search rules) returns returns-2)

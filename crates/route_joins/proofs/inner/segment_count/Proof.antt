@@ -6,7 +6,7 @@ use Rattle.route_joins.proofs.inner.segment_count.Tie as tie
 
 returns : tie.Need-returns
 unfolding segment_count
-returns c = rw c.before.point-count.ensures at c.segments-of.ensures
+returns c = rw c.before.point_count.ensures at c.segments_of.ensures
 
-pub segment-count-spec : {M : Type 1} → statement M
-segment-count-spec = tie.close (tie.spec (λ c κs. search rules) (λ c κs. search rules) returns)
+pub segment_count_spec : {M : Type 1} → statement M
+segment_count_spec = tie.close (tie.spec (λ c κs. search rules) (λ c κs. search rules) returns)

@@ -16,7 +16,7 @@ use Rattle.row_text.proofs.Laws.{handed-count, handed}
 use Rattle.row_text.proofs.inner.print_entry.Statement.{statement}
 use Rattle.row_text.proofs.inner.print_entry.Tie as tie
 
-module _ (c : tie.After-points) where
+module _ (c : tie.After-points-count) where
   abbrev start : tie.Start
   start = c.before.before.before.before.before
 
@@ -24,36 +24,36 @@ module _ (c : tie.After-points) where
   own = coordinates start.args.file.now start.args.k
 
   bytes : (i : ℕ) → get_or start.args.file.now i 0 < 256
-  bytes i = omega (arith, c.before.before.before.before.shared-slice-known.given i)
+  bytes i = omega (arith, c.before.before.before.before.shared_slice_known-1.given i)
 
   -- as many numbers as the route has are written
-  count : c.points.result.count ≡ length own
-  count = ap (λ r. r.count) c.points.ensures.0 ∙ handed-count start.args.k start.pre.0 bytes (replicate 32768 (pos 0)) (length-replicate 32768 (pos 0))
+  count : c.points-count.result.count ≡ length own
+  count = ap (λ r. r.count) c.points-count.ensures.0 ∙ handed-count start.args.k start.pre.0 bytes (replicate 32768 (pos 0)) (length-replicate 32768 (pos 0))
 
   -- and they are its own
-  numbers : take c.points.result.count c.points.new.1.1.0 ≡ own
+  numbers : take c.points-count.result.count c.points-count.new.1.1.0 ≡ own
   numbers =
-      ap (λ n. take n c.points.new.1.1.0) count ∙ ap (take (length own)) c.points.ensures.1 ∙ handed start.args.k start.pre.0 bytes (replicate 32768 (pos 0)) (length-replicate 32768 (pos 0))
+      ap (λ n. take n c.points-count.new.1.1.0) count ∙ ap (take (length own)) c.points-count.ensures.1 ∙ handed start.args.k start.pre.0 bytes (replicate 32768 (pos 0)) (length-replicate 32768 (pos 0))
 
-  room : c.points.result.count < 32769
+  room : c.points-count.result.count < 32769
   room = omega (arith, count, enough start.args.file.now start.args.k start.pre.0 bytes)
 
-array-share-prefix-room : tie.Need-array-share-prefix-room
-array-share-prefix-room c = let p = c.before in omega (arith, room p, p.points.auto.1.1.0, length-replicate 32768 (pos 0))
+array-share-prefix-room : tie.Need-slice_bounds-room-end
+array-share-prefix-room c = let p = c.before in omega (arith, room p, p.points-count.auto.1.1.0, length-replicate 32768 (pos 0))
 
 returns : tie.Need-returns
 unfolding entry_pixels
 returns c =
     let p = c.before.before.before in
     let l = (start p).args.limits in
-    let e = p.before.before.before.entry in
-    to_z-of_z {w = w64} {z = c.print-route.result} (search rules) ∙ c.print-route.ensures
+    let e = p.before.before.before.entry-entry in
+    to_z-of_z {w = w64} {z = c.print_route.result} (search rules) ∙ c.print_route.ensures
     ∙ ap (λ cs. route_pixels l e.result.closed cs (to_z w64 (of_z w64 e.result.width))) (numbers p)
     ∙ ap (route_pixels l e.result.closed (own p)) (to_z-of_z {w = w64} {z = e.result.width} (search rules))
     ∙ ap (λ d. route_pixels l d.closed (own p) d.width) e.ensures
 
-pub print-entry-spec : {M : Type 1} → statement M
-print-entry-spec =
+pub print_entry_spec : {M : Type 1} → statement M
+print_entry_spec =
     tie.close
     (tie.spec
     (λ c κs. search rules)

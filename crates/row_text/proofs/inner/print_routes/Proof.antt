@@ -18,52 +18,52 @@ use Rattle.row_text.proofs.Laws.{most, entry-pixels}
 use Rattle.row_text.proofs.inner.print_routes.Statement.{statement}
 use Rattle.row_text.proofs.inner.print_routes.Tie as tie
 
-abbrev invariant-loop : tie.invariant-loop
+abbrev invariant-loop : tie.invariant-loop-k
 invariant-loop file limits n sum₀ k₀ sum k =
     (k ≤ n) × ((n ≡ route_count file) × (Within sum.total (most * most * k) × (sum.total +ℤ sum_from (entry_pixels limits file) k (n - k) ≡ all_pixels limits file)))
 
-abbrev decreases-loop : tie.decreases-loop
+abbrev decreases-loop : tie.decreases-loop-k
 decreases-loop file limits n sum₀ k₀ sum k = n - k
 
-module _ (c : tie.After-count-of invariant-loop decreases-loop) where
+module _ (c : tie.After-count_of-n invariant-loop decreases-loop) where
   abbrev pixels : ℕ → ℤ
   pixels = let a = c.before.before.args in entry_pixels a.limits a.file.now
 
-loop-holds : tie.Need-loop-init invariant-loop decreases-loop
+loop-holds : tie.Need-loop-k-init invariant-loop decreases-loop
 unfolding all_pixels
 loop-holds c =
     let o = c.before.before.before.before.before in
-    let n = o.count_of.ensures in
-    (omega arith, (n, (record { bound = omega arith }, sum-begun (pixels o) o.count_of.result ∙ ap (sum_from (pixels o) 0) n)))
+    let n = o.count_of-n.ensures in
+    (omega arith, (n, (record { bound = omega arith }, sum-begun (pixels o) o.count_of-n.result ∙ ap (sum_from (pixels o) 0) n)))
 
 -- ---- in a turn of the loop
 
-module _ (c : tie.In-loop invariant-loop decreases-loop) where
-  abbrev counted : tie.After-count-of invariant-loop decreases-loop
+module _ (c : tie.In-loop-k invariant-loop decreases-loop) where
+  abbrev counted : tie.After-count_of-n invariant-loop decreases-loop
   counted = c.before.before.before.before.before.before.before
 
-  few : c.before.loop.k < 16
-  few = omega (arith, c.loop-test.true, c.before.loop.invariant.1.0, counted.before.before.pre.0.few)
+  few : c.before.loop-k.k < 16
+  few = omega (arith, c.loop-k-test.true, c.before.loop-k.invariant.1.0, counted.before.before.pre.0.few)
 
-  sum-held : Hold (of_z w64 c.before.loop.sum.total) c.before.loop.sum.total (most * most * 16)
-  sum-held = hold (within_more c.before.loop.invariant.1.1.0 (omega (arith, few))) tt
+  sum-held : Hold (of_z w64 c.before.loop-k.sum.total) c.before.loop-k.sum.total (most * most * 16)
+  sum-held = hold (within_more c.before.loop-k.invariant.1.1.0 (omega (arith, few))) tt
 
 -- the pixels of the route
-pixels-held : (c : tie.After-print-entry invariant-loop decreases-loop) → let l = c.before in Hold (of_z w64 c.print-entry.result) (pixels (counted l) l.before.loop.k) (most * most)
-pixels-held c = let s = (counted c.before).before.before in hold-as c.print-entry.ensures (entry-pixels s.pre.1 _ _) tt
+pixels-held : (c : tie.After-print_entry-pixels invariant-loop decreases-loop) → let l = c.before in Hold (of_z w64 c.print_entry-pixels.result) (pixels (counted l) l.before.loop-k.k) (most * most)
+pixels-held c = let s = (counted c.before).before.before in hold-as c.print_entry-pixels.ensures (entry-pixels s.pre.1 _ _) tt
 
-loop-again : tie.Need-loop-preserved invariant-loop decreases-loop
+loop-again : tie.Need-loop-k-preserved invariant-loop decreases-loop
 loop-again c =
     let p = c.before.before in
     let l = p.before in
-    let inv = l.before.loop.invariant.1 in
+    let inv = l.before.loop-k.invariant.1 in
     let next = (hold-add (sum-held l) (pixels-held p) tt).is in (
       omega arith,
       (
         inv.0,
         (
           rw next (within_more (within-add inv.1.0 (pixels-held p).small) (omega arith)),
-          rw next (sum-turn (pixels (counted l)) l.before.loop.sum.total _ (counted l).count_of.result l.before.loop.k inv.1.1 l.loop-test.true),
+          rw next (sum-turn (pixels (counted l)) l.before.loop-k.sum.total _ (counted l).count_of-n.result l.before.loop-k.k inv.1.1 l.loop-k-test.true),
         ),
       ),
     )
@@ -72,10 +72,10 @@ returns : tie.Need-returns invariant-loop decreases-loop
 returns c =
     let l = c.before.before in
     let o = l.before.before.before.before.before.before in
-    to_z-of_z {w = w64} {z = l.loop.sum.total} (search rules) ∙ sum_done (pixels o) l.loop.sum.total _ o.count_of.result l.loop.k l.loop.invariant.1.1.1 c.before.loop-test.false
+    to_z-of_z {w = w64} {z = l.loop-k.sum.total} (search rules) ∙ sum_done (pixels o) l.loop-k.sum.total _ o.count_of-n.result l.loop-k.k l.loop-k.invariant.1.1.1 c.before.loop-k-test.false
 
-pub print-routes-spec : {M : Type 1} → statement M
-print-routes-spec =
+pub print_routes_spec : {M : Type 1} → statement M
+print_routes_spec =
     tie.close
     (tie.spec
     invariant-loop

@@ -22,74 +22,74 @@ use Rattle.row_text.proofs.Laws.{most, place-pixels}
 use Rattle.row_text.proofs.inner.print_rows.Statement.{statement}
 use Rattle.row_text.proofs.inner.print_rows.Tie as tie
 
-abbrev invariant-loop : tie.invariant-loop
+abbrev invariant-loop : tie.invariant-loop-i
 invariant-loop k route rows n sum₀ i₀ sum i =
     (i ≤ n) × ((n ≡ row_count rows) × ((Within sum.total (most * i) × (sum.total +ℤ sum_from (lit_at route rows) i (n - i) ≡ lit_in route rows))
     × (first_of (list_from (room_at route rows) i (n - i)) ≡ 0)))
 
-abbrev decreases-loop : tie.decreases-loop
+abbrev decreases-loop : tie.decreases-loop-i
 decreases-loop k route rows n sum₀ i₀ sum i = n - i
 
-loop-holds : tie.Need-loop-init invariant-loop decreases-loop
+loop-holds : tie.Need-loop-i-init invariant-loop decreases-loop
 unfolding lit_in rows_refusal
 loop-holds c =
-    let n = c.row_count.ensures in
+    let n = c.row_count-n.ensures in
     let a = c.before.args in
     let lit = lit_at a.route a.rows in
-    let all : c.row_count.result - 0 ≡ row_count a.rows = omega (arith, n) in
-    (omega arith, (n, ((record { bound = omega arith }, sum-begun lit c.row_count.result ∙ ap (sum_from lit 0) n), rw all c.before.requires.1.1)))
+    let all : c.row_count-n.result - 0 ≡ row_count a.rows = omega (arith, n) in
+    (omega arith, (n, ((record { bound = omega arith }, sum-begun lit c.row_count-n.result ∙ ap (sum_from lit 0) n), rw all c.before.requires.1.1)))
 
 -- ---- in a turn of the loop
 
-module _ (c : tie.In-loop invariant-loop decreases-loop) where
+module _ (c : tie.In-loop-i invariant-loop decreases-loop) where
   abbrev start : tie.Start invariant-loop decreases-loop
   start = c.before.before.before
 
   abbrev place : ℕ
-  place = c.before.loop.i
+  place = c.before.loop-i.i
 
   abbrev lit-at : ℕ → ℤ
   lit-at = lit_at start.args.route start.args.rows
 
   inner : place < row_count start.args.rows
-  inner = omega (arith, c.loop-test.true, c.before.loop.invariant.1.0)
+  inner = omega (arith, c.loop-i-test.true, c.before.loop-i.invariant.1.0)
 
   few : place < most
   few = omega (arith, inner, count_small start.pre.1.0)
 
-  sum-held : Hold (of_z w64 c.before.loop.sum.total) c.before.loop.sum.total (most * most)
-  sum-held = hold (within_more c.before.loop.invariant.1.1.0.0 (omega (arith, few))) tt
+  sum-held : Hold (of_z w64 c.before.loop-i.sum.total) c.before.loop-i.sum.total (most * most)
+  sum-held = hold (within_more c.before.loop-i.invariant.1.1.0.0 (omega (arith, few))) tt
 
   -- the row at the place is not refused, nor is one of those after it
-  none-refused : let room = room_at start.args.route start.args.rows in (room place ≡ 0) × (first_of (list_from room (place + 1) (c.before.before.row_count.result - (place + 1))) ≡ 0)
+  none-refused : let room = room_at start.args.route start.args.rows in (room place ≡ 0) × (first_of (list_from room (place + 1) (c.before.before.row_count-n.result - (place + 1))) ≡ 0)
   unfolding first_of
   none-refused =
       let room = room_at start.args.route start.args.rows in
-      let n = c.before.before.row_count.result in
+      let n = c.before.before.row_count-n.result in
       (or-none (room place) (first_of (list_from room (place + 1) (n - (place + 1))))).0
-      (ap first_of (sym (list-next room n place c.loop-test.true)) ∙ c.before.loop.invariant.1.1.1)
+      (ap first_of (sym (list-next room n place c.loop-i-test.true)) ∙ c.before.loop-i.invariant.1.1.1)
 
-at : (c : tie.After-row-at invariant-loop decreases-loop) → to_z w64 (of_z w64 c.row_at.result) ≡ row_at (start c.before).args.rows (place c.before)
-at c = to_z-of_z {w = w64} {z = c.row_at.result} (search rules) ∙ c.row_at.ensures
+at : (c : tie.After-row_at-row invariant-loop decreases-loop) → to_z w64 (of_z w64 c.row_at-row.result) ≡ row_at (start c.before).args.rows (place c.before)
+at c = to_z-of_z {w = w64} {z = c.row_at-row.result} (search rules) ∙ c.row_at-row.ensures
 
 -- the pixels of the row
-pixels-held : (c : tie.After-print-row invariant-loop decreases-loop) → let l = c.before.before in Hold (of_z w64 c.print-row.result) (lit-at l (place l)) most
+pixels-held : (c : tie.After-print_row-lit invariant-loop decreases-loop) → let l = c.before.before in Hold (of_z w64 c.print_row-lit.result) (lit-at l (place l)) most
 unfolding lit_at
 pixels-held c =
     let l = c.before.before in
-    hold-as (c.print-row.ensures ∙ ap (lit_on (start l).args.route) (at c.before)) (place-pixels (start l).requires.0 (start l).requires.1.0 (inner l)) tt
+    hold-as (c.print_row-lit.ensures ∙ ap (lit_on (start l).args.route) (at c.before)) (place-pixels (start l).requires.0 (start l).requires.1.0 (inner l)) tt
 
-print-row-requires : tie.Need-print-row-requires invariant-loop decreases-loop
+print-row-requires : tie.Need-print_row-lit-requires invariant-loop decreases-loop
 print-row-requires c κs =
     let l = c.before in
     let s = start l in
     (s.pre.0, (rw (at c) (row_within s.pre.1.0 (inner l)), ap (λ y. (board_on s.args.route y).refusal) (at c) ∙ (none-refused l).0))
 
-loop-again : tie.Need-loop-preserved invariant-loop decreases-loop
+loop-again : tie.Need-loop-i-preserved invariant-loop decreases-loop
 loop-again c =
     let p = c.before.before in
     let l = p.before.before in
-    let inv = l.before.loop.invariant.1 in
+    let inv = l.before.loop-i.invariant.1 in
     let next = (hold-add (sum-held l) (pixels-held p) tt).is in (
       omega arith,
       (
@@ -97,7 +97,7 @@ loop-again c =
         (
           (
             rw next (within_more (within-add inv.1.0.0 (pixels-held p).small) (omega arith)),
-            rw next (sum-turn (lit-at l) l.before.loop.sum.total _ l.before.before.row_count.result (place l) inv.1.0.1 l.loop-test.true),
+            rw next (sum-turn (lit-at l) l.before.loop-i.sum.total _ l.before.before.row_count-n.result (place l) inv.1.0.1 l.loop-i-test.true),
           ),
           (none-refused l).1,
         ),
@@ -108,11 +108,11 @@ returns : tie.Need-returns invariant-loop decreases-loop
 returns c =
     let l = c.before.before in
     let a = l.before.before.args in
-    to_z-of_z {w = w64} {z = l.loop.sum.total} (search rules)
-    ∙ sum_done (lit_at a.route a.rows) l.loop.sum.total _ l.before.row_count.result l.loop.i l.loop.invariant.1.1.0.1 c.before.loop-test.false
+    to_z-of_z {w = w64} {z = l.loop-i.sum.total} (search rules)
+    ∙ sum_done (lit_at a.route a.rows) l.loop-i.sum.total _ l.before.row_count-n.result l.loop-i.i l.loop-i.invariant.1.1.0.1 c.before.loop-i-test.false
 
-pub print-rows-spec : {M : Type 1} → statement M
-print-rows-spec =
+pub print_rows_spec : {M : Type 1} → statement M
+print_rows_spec =
     tie.close
     (tie.spec
     invariant-loop

@@ -19,44 +19,44 @@ record Known (s : Span) (x : ℤ) : Type 0 where
   fits : SFits w64 x
   small : Hold (of_z w64 x) x product_limit
 
-known : (c : tie.After-is-empty) → Known c.before.before.before.before.args.span c.before.before.before.before.args.column
+known : (c : tie.After-is_empty) → Known c.before.before.before.before.args.span c.before.before.before.before.args.column
 known c =
     let b = c.before.before.before.before in
     record { row = search rules; start = search rules; end = search rules; fits = b.ranges.column; small = hold b.requires tt }
 
-add-t7 : tie.Need-overflow-add-t7
+add-t7 : tie.Need-overflow_add-result
 add-t7 c = fits-add (known c.before).small (literal 1 tt) tt
 
-returns : tie.Need-returns
+returns : tie.Need-returns-then-is_empty
 unfolding extended
 returns c =
     let k = known c.before in
-    simp (sym c.before.is-empty.ensures ∙ c.if1.true) (cc (to_z-of_z k.row, k.small.is, (hold-add k.small (literal 1 tt) tt).is))
+    simp (sym c.before.is_empty.ensures ∙ c.if-is_empty.true) (cc (to_z-of_z k.row, k.small.is, (hold-add k.small (literal 1 tt) tt).is))
 
-returns-2 : tie.Need-returns-2
+returns-2 : tie.Need-returns-then-column-start
 unfolding extended
 returns-2 c =
     let e = c.before in
     let k = known e.before in
-    simp (sym e.before.is-empty.ensures ∙ e.if1.false, lt_back k.fits k.start c.if2.true) (cc (to_z-of_z k.row, k.small.is, to_z-of_z k.end))
+    simp (sym e.before.is_empty.ensures ∙ e.if-is_empty.false, lt_back k.fits k.start c.if-column-start.true) (cc (to_z-of_z k.row, k.small.is, to_z-of_z k.end))
 
-add-t9 : tie.Need-overflow-add-t9
+add-t9 : tie.Need-overflow_add-result-then-end-column
 add-t9 c = fits-add (known c.before.before.before).small (literal 1 tt) tt
 
-returns-3 : tie.Need-returns-3
+returns-3 : tie.Need-returns-then-end-column
 unfolding extended
 returns-3 c =
     let e = c.before.before in
     let k = known e.before in
-    simp (sym e.before.is-empty.ensures ∙ e.if1.false, lt_back k.fits k.start c.before.if2.false, le-back k.end k.fits c.if3.true)
+    simp (sym e.before.is_empty.ensures ∙ e.if-is_empty.false, lt_back k.fits k.start c.before.if-column-start.false, le-back k.end k.fits c.if-end-column.true)
     (cc (to_z-of_z k.row, to_z-of_z k.start, (hold-add k.small (literal 1 tt) tt).is))
 
-returns-4 : tie.Need-returns-4
+returns-4 : tie.Need-returns
 unfolding extended
 returns-4 c =
     let e = c.before.before in
     let k = known e.before in
-    simp (sym e.before.is-empty.ensures ∙ e.if1.false, lt_back k.fits k.start c.before.if2.false, le-back k.end k.fits c.if3.false)
+    simp (sym e.before.is_empty.ensures ∙ e.if-is_empty.false, lt_back k.fits k.start c.before.if-column-start.false, le-back k.end k.fits c.if-end-column.false)
 
-pub extend-spec : {M : Type 1} → statement M
-extend-spec = tie.close (tie.spec (λ c κs. search rules) add-t7 returns returns-2 add-t9 returns-3 returns-4)
+pub extend_spec : {M : Type 1} → statement M
+extend_spec = tie.close (tie.spec (λ c κs. search rules) add-t7 returns returns-2 add-t9 returns-3 returns-4)

@@ -17,5 +17,5 @@ returns c =
       to_z-of_z {w = w64} {z = c.before.greater.result} (search rules),
     )
 
-pub joined-spec : {M : Type 1} → statement M
-joined-spec = tie.close (tie.spec (λ c κs. search rules) (λ c κs. search rules) returns)
+pub joined_spec : {M : Type 1} → statement M
+joined_spec = tie.close (tie.spec (λ c κs. search rules) (λ c κs. search rules) returns)

@@ -19,68 +19,68 @@ use Rattle.scanline.proofs.Laws.{met-off}
 use Rattle.scanline.proofs.inner.meet.Statement.{statement}
 use Rattle.scanline.proofs.inner.meet.Tie as tie
 
-abbrev span : tie.After-has-row → Span
+abbrev span : tie.After-has_row → Span
 span c = c.before.before.args.span
 
-abbrev line : tie.After-has-row → Line
+abbrev line : tie.After-has_row → Line
 line c = c.before.before.args.line
 
-row_is : (c : tie.After-has-row) → to_z w64 (of_z w64 (span c).row) ≡ (span c).row
+row_is : (c : tie.After-has_row) → to_z w64 (of_z w64 (span c).row) ≡ (span c).row
 row_is c = to_z-of_z {w = w64} {z = (span c).row} (search rules)
 
 -- what the test says
-tested : (c : tie.After-has-row) → c.has-row.result ≡ has_row (line c) (span c).row
+tested : (c : tie.After-has_row) → c.has_row.result ≡ has_row (line c) (span c).row
 tested c = cc (row_is c)
 
-on : (c : tie.Then1) → Between (line c.before).start.y (line c.before).end.y (span c.before).row
-on c = (row-exactly (line c.before) (span c.before).row).0 (sym (tested c.before) ∙ c.if1.true)
+on : (c : tie.Then-has_row) → Between (line c.before).start.y (line c.before).end.y (span c.before).row
+on c = (row-exactly (line c.before) (span c.before).row).0 (sym (tested c.before) ∙ c.if-has_row.true)
 
-ends-on-requires : tie.Need-ends-on-requires
+ends-on-requires : tie.Need-ends_on-ends-requires
 ends-on-requires c κs = (c.before.before.before.requires, rw (row_is c.before) (on c))
 
-ends : (c : tie.After-ends-on) → c.ends_on.result ≡ ends_on (line c.before.before) (span c.before.before).row
+ends : (c : tie.After-ends_on-ends) → c.ends_on-ends.result ≡ ends_on (line c.before.before) (span c.before.before).row
 ends c = cc (row_is c.before.before)
 
 -- both counts of columns are small
-small : (c : tie.After-ends-on) → (c.ends_on.result.first ≤ 2 ^ 15) × (c.ends_on.result.last ≤ 2 ^ 15)
+small : (c : tie.After-ends_on-ends) → (c.ends_on-ends.result.first ≤ 2 ^ 15) × (c.ends_on-ends.result.last ≤ 2 ^ 15)
 small c = let s = c.before.before in rw (ends c) (counts-small (line s) (span s).row (on c.before) s.before.before.requires)
 
-column-at-requires : tie.Need-column-at-requires
+column-at-requires : tie.Need-column_at-first-requires
 column-at-requires c κs = (c.before.before.before.before.requires, omega (arith, small c))
 
-column-at-requires-2 : tie.Need-column-at-requires-2
+column-at-requires-2 : tie.Need-column_at-last-requires
 column-at-requires-2 c κs = (c.before.before.before.before.before.requires, omega (arith, small c.before))
 
 -- the two columns, in their bits
-first : (c : tie.After-column-at) → Hold (of_z w64 c.column-at.result) (first_on (line c.before.before.before) (span c.before.before.before).row) line_limit
+first : (c : tie.After-column_at-first) → Hold (of_z w64 c.column_at-first.result) (first_on (line c.before.before.before) (span c.before.before.before).row) line_limit
 first c =
     let s = c.before.before.before in
     let o = on c.before.before in
-    hold-as {r = c.column-at.result} (rw (ends c.before) at c.column-at.ensures) (at-near (line s) (span s).row o s.before.before.requires (first-at (line s) (span s).row o)) tt
+    hold-as {r = c.column_at-first.result} (rw (ends c.before) at c.column_at-first.ensures) (at-near (line s) (span s).row o s.before.before.requires (first-at (line s) (span s).row o)) tt
 
-last : (c : tie.After-column-at2) → Hold (of_z w64 c.column-at2.result) (last_on (line c.before.before.before.before) (span c.before.before.before.before).row) line_limit
+last : (c : tie.After-column_at-last) → Hold (of_z w64 c.column_at-last.result) (last_on (line c.before.before.before.before) (span c.before.before.before.before).row) line_limit
 last c =
     let s = c.before.before.before.before in
     let o = on c.before.before.before in
-    hold-as {r = c.column-at2.result} (rw (ends c.before.before) at c.column-at2.ensures) (at-near (line s) (span s).row o s.before.before.requires (last-at (line s) (span s).row o)) tt
+    hold-as {r = c.column_at-last.result} (rw (ends c.before.before) at c.column_at-last.ensures) (at-near (line s) (span s).row o s.before.before.requires (last-at (line s) (span s).row o)) tt
 
 extend-requires : tie.Need-extend-requires
 extend-requires c κs = let h = first c.before in rw h.is (within_more h.small (lit≤ tt))
 
-extend-requires-2 : tie.Need-extend-requires-2
+extend-requires-2 : tie.Need-extend-requires-then-has_row
 extend-requires-2 c κs = let h = last c.before in rw h.is (within_more h.small (lit≤ tt))
 
-returns : tie.Need-returns
+returns : tie.Need-returns-then-has_row
 returns c =
     let h = c.before.before in
     let t = h.before.before.before in
     cc (met-row (span t.before) (line t.before) (on t), (first h.before).is, (last h).is)
 
-returns-2 : tie.Need-returns-2
-returns-2 c = let s = c.before in sym (met-off (span s) (line s) (sym (tested s) ∙ c.if1.false))
+returns-2 : tie.Need-returns
+returns-2 c = let s = c.before in sym (met-off (span s) (line s) (sym (tested s) ∙ c.if-has_row.false))
 
-pub meet-spec : {M : Type 1} → statement M
-meet-spec =
+pub meet_spec : {M : Type 1} → statement M
+meet_spec =
     tie.close
     (tie.spec
     (λ c κs. search rules)

@@ -15,5 +15,5 @@ returns c =
     rw (c.both.ensures, to_z-of_z {w = w64} {z = a.other.start} (search rules), to_z-of_z {w = w64} {z = a.span.end} (search rules))
     (ap (◌&&◌ (le_z a.other.start a.span.end)) (ap₂ le_z (to_z-of_z {w = w64} {z = a.span.start} (search rules)) (to_z-of_z {w = w64} {z = a.other.end} (search rules))))
 
-pub touches-spec : {M : Type 1} → statement M
-touches-spec = tie.close (tie.spec (λ c κs. search rules) returns)
+pub touches_spec : {M : Type 1} → statement M
+touches_spec = tie.close (tie.spec (λ c κs. search rules) returns)

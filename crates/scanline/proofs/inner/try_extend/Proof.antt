@@ -5,7 +5,7 @@ use Rattle.scanline.proofs.Laws.{join-from-empty, join-with-empty, join-touching
 use Rattle.scanline.proofs.inner.try_extend.Statement.{statement}
 use Rattle.scanline.proofs.inner.try_extend.Tie as tie
 
-returns : tie.Need-returns
+returns : tie.Need-returns-then-is_empty
 returns c =
     let a = c.before.before.before.before.args in
     cc (
@@ -15,16 +15,16 @@ returns c =
       to_z-of_z {w = w64} {z = a.other.end} (search rules),
     )
 
-returns-2 : tie.Need-returns-2
+returns-2 : tie.Need-returns-then-is_empty-2
 returns-2 c = let a = c.before.before.before.before.args in cc (join-with-empty a.span a.other (cc) (cc))
 
-returns-3 : tie.Need-returns-3
+returns-3 : tie.Need-returns-then-touches
 returns-3 c = let a = c.before.before.before.before.before.before.before.args in cc (join-touching a.span a.other (cc) (cc) (cc))
 
-returns-4 : tie.Need-returns-4
+returns-4 : tie.Need-returns
 returns-4 c = let a = c.before.before.before.before.before.before.args in cc (join_apart a.span a.other (cc) (cc) (cc))
 
-pub try-extend-spec : {M : Type 1} → statement M
-try-extend-spec =
+pub try_extend_spec : {M : Type 1} → statement M
+try_extend_spec =
     tie.close
     (tie.spec (λ c κs. search rules) returns (λ c κs. search rules) returns-2 (λ c κs. search rules) (λ c κs. search rules) returns-3 returns-4)

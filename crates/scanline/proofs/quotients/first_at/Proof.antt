@@ -7,19 +7,19 @@ use Rattle.scanline.proofs.Rows.{last-most}
 use Rattle.scanline.proofs.quotients.first_at.Statement.{statement}
 use Rattle.scanline.proofs.quotients.first_at.Tie as tie
 
-returns : tie.Need-returns
+returns : tie.Need-returns-then-r-eq0
 unfolding first_at
-returns c = rw (eq-eqb _ _ c.if1.true)
+returns c = rw (eq-eqb _ _ c.if-r-eq0.true)
 
-add-result : tie.Need-overflow-add-result
+add-result : tie.Need-overflow_add-result
 add-result c =
     let s = c.before.before in
     let a = s.args in
-    omega (arith, c.last-at.ensures, last-most a.w a.h (a.r - 1) s.requires.1 (omega arith))
+    omega (arith, c.last_at.ensures, last-most a.w a.h (a.r - 1) s.requires.1 (omega arith))
 
-returns-2 : tie.Need-returns-2
+returns-2 : tie.Need-returns
 unfolding first_at
-returns-2 c = rw (ne_eqb _ _ c.before.if1.false, c.last-at.ensures)
+returns-2 c = rw (ne_eqb _ _ c.before.if-r-eq0.false, c.last_at.ensures)
 
-pub first-at-spec : {M : Type 1} → statement M
-first-at-spec = tie.close (tie.spec returns (λ c. search rules) (λ c κs. search rules) add-result returns-2)
+pub first_at_spec : {M : Type 1} → statement M
+first_at_spec = tie.close (tie.spec returns (λ c. search rules) (λ c κs. search rules) add-result returns-2)

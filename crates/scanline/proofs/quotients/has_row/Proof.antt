@@ -17,5 +17,5 @@ returns c =
       to_z-of_z {w = w64} {z = c.before.greater.result} (search rules),
     )
 
-pub has-row-spec : {M : Type 1} → statement M
-has-row-spec = tie.close (tie.spec (λ c κs. search rules) (λ c κs. search rules) (λ c κs. search rules) returns)
+pub has_row_spec : {M : Type 1} → statement M
+has_row_spec = tie.close (tie.spec (λ c κs. search rules) (λ c κs. search rules) (λ c κs. search rules) returns)

@@ -7,18 +7,18 @@ use Rattle.scanline.proofs.Rows.{product_small}
 use Rattle.scanline.proofs.quotients.last_at.Statement.{statement}
 use Rattle.scanline.proofs.quotients.last_at.Tie as tie
 
-returns : tie.Need-returns
+returns : tie.Need-returns-then-r-h
 unfolding last_at
-returns c = rw (eq-eqb _ _ c.if1.true)
+returns c = rw (eq-eqb _ _ c.if-r-h.true)
 
-mul-result-2 : tie.Need-overflow-mul-result-2
+mul-result-2 : tie.Need-overflow_mul-result-2
 mul-result-2 c = let a = c.before.args in omega (arith, product_small {m = 2 * a.r + 1} {n = a.w} (omega arith) (omega arith))
 
-returns-2 : tie.Need-returns-2
+returns-2 : tie.Need-returns
 unfolding last_at
-returns-2 c = rw (ne_eqb _ _ c.if1.false)
+returns-2 c = rw (ne_eqb _ _ c.if-r-h.false)
 
-pub last-at-spec : {M : Type 1} → statement M
-last-at-spec =
+pub last_at_spec : {M : Type 1} → statement M
+last_at_spec =
     tie.close
     (tie.spec returns (λ c. search rules) (λ c. search rules) mul-result-2 (λ c. search rules) (λ c. search rules) returns-2)

@@ -7,7 +7,7 @@ use Rattle.scanline_intersections.proofs.inner.hand_out.Tie as tie
 
 returns : tie.Need-returns
 unfolding merged_next
-returns c = let t = c.before.before in simp (t.try-take.ensures, to_z-of_z t.before.ranges.width)
+returns c = let t = c.before.before in simp (t.try_take-handed.ensures, to_z-of_z t.before.ranges.width)
 
-pub hand-out-spec : {M : Type 1} → statement M
-hand-out-spec = tie.close (tie.spec (λ c κs. search rules) returns)
+pub hand_out_spec : {M : Type 1} → statement M
+hand_out_spec = tie.close (tie.spec (λ c κs. search rules) returns)

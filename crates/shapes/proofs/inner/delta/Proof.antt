@@ -7,5 +7,5 @@ returns : tie.Need-returns
 unfolding delta
 returns c = c.minus.ensures
 
-pub delta-spec : {M : Type 1} → statement M
-delta-spec = tie.close (tie.spec (λ c κs. search rules) returns)
+pub delta_spec : {M : Type 1} → statement M
+delta_spec = tie.close (tie.spec (λ c κs. search rules) returns)

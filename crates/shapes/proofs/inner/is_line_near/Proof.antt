@@ -7,6 +7,6 @@ returns : tie.Need-returns
 unfolding is_line_near
 returns c = cc
 
-pub is-line-near-spec : {M : Type 1} → statement M
-is-line-near-spec =
+pub is_line_near_spec : {M : Type 1} → statement M
+is_line_near_spec =
     tie.close (tie.spec (λ c κs. search rules) (λ c κs. search rules) (λ c κs. search rules) returns)

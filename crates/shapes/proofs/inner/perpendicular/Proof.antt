@@ -10,16 +10,16 @@ use Rattle.shapes.proofs.Laws.{x-held, y-held, near-more, near-delta, near-held,
 use Rattle.shapes.proofs.inner.perpendicular.Statement.{statement}
 use Rattle.shapes.proofs.inner.perpendicular.Tie as tie
 
-dx : (c : tie.After-delta) → Hold (of_z w64 c.delta.result.x) (delta c.before.before.args.line).x (2 ^ 15)
-dx c = rw c.delta.ensures (x-held (near-delta c.before.before.requires) tt)
+dx : (c : tie.After-delta-d) → Hold (of_z w64 c.delta-d.result.x) (delta c.before.before.args.line).x (2 ^ 15)
+dx c = rw c.delta-d.ensures (x-held (near-delta c.before.before.requires) tt)
 
-dy : (c : tie.After-delta) → Hold (of_z w64 c.delta.result.y) (delta c.before.before.args.line).y (2 ^ 15)
-dy c = rw c.delta.ensures (y-held (near-delta c.before.before.requires) tt)
+dy : (c : tie.After-delta-d) → Hold (of_z w64 c.delta-d.result.y) (delta c.before.before.args.line).y (2 ^ 15)
+dy c = rw c.delta-d.ensures (y-held (near-delta c.before.before.requires) tt)
 
-sub-t6 : tie.Need-overflow-sub-t6
+sub-t6 : tie.Need-overflow_sub-turned
 sub-t6 c = fits_neg (dx c.before.before) tt
 
-plus-requires : tie.Need-plus-requires
+plus-requires : tie.Need-plus-end-requires
 plus-requires c κs =
     let d = c.before.before.before in
     (near-more d.before.before.requires.start_near (lit≤ tt), near-held (dy d) (hold-neg (dx d) tt) (lit≤ tt) (lit≤ tt))
@@ -29,7 +29,7 @@ unfolding perpendicular
 returns c =
     let d = c.before.before.before.before in
     let start = d.before.before.args.line.start in
-    ap (line_of start) (c.plus.ensures ∙ ap (plus start) (point-held (dy d) (hold-neg (dx d) tt)))
+    ap (line_of start) (c.plus-end.ensures ∙ ap (plus start) (point-held (dy d) (hold-neg (dx d) tt)))
 
-pub perpendicular-spec : {M : Type 1} → statement M
-perpendicular-spec = tie.close (tie.spec (λ c κs. search rules) sub-t6 plus-requires returns)
+pub perpendicular_spec : {M : Type 1} → statement M
+perpendicular_spec = tie.close (tie.spec (λ c κs. search rules) sub-t6 plus-requires returns)

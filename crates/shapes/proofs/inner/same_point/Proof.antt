@@ -16,5 +16,5 @@ returns c =
     let told : c.both.result ≡ (eqb (of_z w64 s.a.x) (of_z w64 s.b.x) && eqb (of_z w64 s.a.y) (of_z w64 s.b.y)) = c.both.ensures in
     told ∙ ap₂ ◌&&◌ (bits-eq {x = s.a.x} {y = s.b.x} (search rules) (search rules)) (bits-eq {x = s.a.y} {y = s.b.y} (search rules) (search rules))
 
-pub same-point-spec : {M : Type 1} → statement M
-same-point-spec = tie.close (tie.spec (λ c κs. search rules) returns)
+pub same_point_spec : {M : Type 1} → statement M
+same_point_spec = tie.close (tie.spec (λ c κs. search rules) returns)

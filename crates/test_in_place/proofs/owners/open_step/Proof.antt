@@ -16,9 +16,9 @@ use Rattle.test_in_place.proofs.owners.open_step.Code as code
 abbrev owner : Owner open-walker
 owner = record { copy = T'.the_copy; make = λ s w. record { step = s; walk = w }; step-made = λ s w. refl; walk-made = λ s w. refl; step-in-place = step.name }
 
-pub open-step-spec : {M : Type 1} → stated.statement M
+pub open_step_spec : {M : Type 1} → stated.statement M
 unfolding code.routine tables_of
-open-step-spec 𝓤 𝓛 𝓜 𝓡 =
+open_step_spec 𝓤 𝓛 𝓜 𝓡 =
     entered 𝓤 𝓛.H (triple_of 𝓛 owned.signature (owned.spec 𝓛 𝓜.mem 𝓡.run))
     (tables 𝓤 𝓛.H 𝓜 𝓡 code.env).C (tables 𝓤 𝓛.H 𝓜 𝓡 code.env).Λ key.name code.function (code.unfolded 𝓤 𝓛.H 𝓜 𝓡)
     (meets open-walker owner 𝓛 (tables_of 𝓤 𝓛.H 𝓜 (tables 𝓤 𝓛.H 𝓜 𝓡 code.env))

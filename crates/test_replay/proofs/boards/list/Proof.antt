@@ -7,26 +7,26 @@ use lib.Seq.{length-take-le}
 use Rattle.test_replay.proofs.boards.list.Statement.{statement}
 use Rattle.test_replay.proofs.boards.list.Tie as tie
 
-number-after-requires : tie.Need-number-after-requires
+number-after-requires : tie.Need-number_after-requires
 number-after-requires c κs = search rules
 
-size-up-to-requires : tie.Need-size-up-to-requires
+size-up-to-requires : tie.Need-size_up_to-n-requires
 size-up-to-requires c κs = search rules
 
-array-borrow-prefix-out : tie.Need-array-borrow-prefix-out
+array-borrow-prefix-out : tie.Need-slice_bounds-out-end
 array-borrow-prefix-out c = search rules
 
-slice-aggregate-list-to : tie.Need-slice-aggregate-list-to
-slice-aggregate-list-to c = sym (length-take-le c.before.size-up-to.result (replicate 80 (negsuc 6)) c.before.size-up-to.ensures)
+slice-aggregate-list-to : tie.Need-slice_bounds-list_to-end
+slice-aggregate-list-to c = sym (length-take-le c.before.size_up_to-n.result (replicate 80 (negsuc 6)) c.before.size_up_to-n.ensures)
 
-list-to-requires : tie.Need-list-to-requires
+list-to-requires : tie.Need-list_to-requires
 list-to-requires c κs = search rules
 
 returns : tie.Need-returns
 returns c = search rules
 
-pub list-spec : {M : Type 1} → statement M
-list-spec =
+pub list_spec : {M : Type 1} → statement M
+list_spec =
     tie.close
     (tie.spec
     number-after-requires

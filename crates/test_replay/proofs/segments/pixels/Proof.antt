@@ -19,29 +19,29 @@ held {z} fits is passed = hold (true-within corner_limit z (sym (is ∙ ap (is_w
 within-requires : tie.Need-within-requires
 within-requires c κs = search rules
 
-within-requires-2 : tie.Need-within-requires-2
+within-requires-2 : tie.Need-within-requires-then-within
 within-requires-2 c κs = search rules
 
-first-held : (c : tie.Then2) → Hold (of_z w64 c.before.before.before.before.args.first) c.before.before.before.before.args.first corner_limit
-first-held c = let t = c.before.before in held t.before.before.ranges.first t.before.within.ensures t.if1.true
+first-held : (c : tie.Then-within-2) → Hold (of_z w64 c.before.before.before.before.args.first) c.before.before.before.before.args.first corner_limit
+first-held c = let t = c.before.before in held t.before.before.ranges.first t.before.within.ensures t.if-within.true
 
-last-held : (c : tie.Then2) → Hold (of_z w64 c.before.before.before.before.args.last) c.before.before.before.before.args.last corner_limit
-last-held c = held c.before.before.before.before.ranges.last c.before.within2.ensures c.if2.true
+last-held : (c : tie.Then-within-2) → Hold (of_z w64 c.before.before.before.before.args.last) c.before.before.before.before.args.last corner_limit
+last-held c = held c.before.before.before.before.ranges.last c.before.within-then-within.ensures c.if-within-2.true
 
-sub-result : tie.Need-overflow-sub-result
+sub-result : tie.Need-overflow_sub-result
 sub-result c = fits_sub (last-held c) (first-held c) tt
 
-add-result : tie.Need-overflow-add-result
+add-result : tie.Need-overflow_add-result
 add-result c = fits-add (hold-sub (last-held c) (first-held c) tt) (literal 1 tt) tt
 
-returns : tie.Need-returns
+returns : tie.Need-returns-then-within-2
 returns c = search rules
 
-returns-2 : tie.Need-returns-2
+returns-2 : tie.Need-returns-else-within-2
 returns-2 c = search rules
 
-returns-3 : tie.Need-returns-3
+returns-3 : tie.Need-returns-else-within
 returns-3 c = search rules
 
-pub pixels-spec : {M : Type 1} → statement M
-pixels-spec = tie.close (tie.spec within-requires within-requires-2 sub-result add-result returns returns-2 returns-3)
+pub pixels_spec : {M : Type 1} → statement M
+pixels_spec = tie.close (tie.spec within-requires within-requires-2 sub-result add-result returns returns-2 returns-3)

@@ -5,18 +5,18 @@ use lib.Seq.{length-take-le}
 use Rattle.test_replay.proofs.strokes.say_first.Statement.{statement}
 use Rattle.test_replay.proofs.strokes.say_first.Tie as tie
 
-slice-aggregate-say-numbers : tie.Need-slice-aggregate-say-numbers
-slice-aggregate-say-numbers c = sym (length-take-le _ _ c.before.if1.true)
+slice-aggregate-say-numbers : tie.Need-slice_bounds-say_numbers-end
+slice-aggregate-say-numbers c = sym (length-take-le _ _ c.before.if-n-numbers.true)
 
-say-numbers-requires : tie.Need-say-numbers-requires
+say-numbers-requires : tie.Need-say_numbers-requires
 say-numbers-requires c κs = search rules
 
-returns : tie.Need-returns
+returns : tie.Need-returns-then-n-numbers
 returns c = search rules
 
-returns-2 : tie.Need-returns-2
+returns-2 : tie.Need-returns-else-n-numbers
 returns-2 c = search rules
 
-pub say-first-spec : {M : Type 1} → statement M
-say-first-spec =
+pub say_first_spec : {M : Type 1} → statement M
+say_first_spec =
     tie.close (tie.spec slice-aggregate-say-numbers say-numbers-requires returns returns-2)

@@ -1,11 +1,11 @@
 use Rattle.thick_points.proofs.inner.flag.Statement.{statement}
 use Rattle.thick_points.proofs.inner.flag.Tie as tie
 
-returns : tie.Need-returns
-returns c = rw c.if1.true
+returns : tie.Need-returns-then-extra
+returns c = rw c.if-extra.true
 
-returns-2 : tie.Need-returns-2
-returns-2 c = rw c.if1.false
+returns-2 : tie.Need-returns-else-extra
+returns-2 c = rw c.if-extra.false
 
-pub flag-spec : {M : Type 1} → statement M
-flag-spec = tie.close (tie.spec returns returns-2)
+pub flag_spec : {M : Type 1} → statement M
+flag_spec = tie.close (tie.spec returns returns-2)

@@ -3,14 +3,14 @@ use native.Mathlib.Omega.{arith}
 use Rattle.thick_points.proofs.inner.length_on.Statement.{statement}
 use Rattle.thick_points.proofs.inner.length_on.Tie as tie
 
-sub-result : tie.Need-overflow-sub-result
+sub-result : tie.Need-overflow_sub-result
 sub-result c = search rules
 
-returns : tie.Need-returns
-returns c = rw c.if1.true
+returns : tie.Need-returns-then-extra
+returns c = rw c.if-extra.true
 
-returns-2 : tie.Need-returns-2
-returns-2 c = rw c.if1.false (omega arith)
+returns-2 : tie.Need-returns
+returns-2 c = rw c.if-extra.false (omega arith)
 
-pub length-on-spec : {M : Type 1} → statement M
-length-on-spec = tie.close (tie.spec sub-result returns returns-2)
+pub length_on_spec : {M : Type 1} → statement M
+length_on_spec = tie.close (tie.spec sub-result returns returns-2)

@@ -19,7 +19,7 @@ use Rattle.bresenham.specs.Points.{major_length}
 use Rattle.thick_points.proofs.inner.major_length.Statement.{statement}
 use Rattle.thick_points.proofs.inner.major_length.Tie as tie
 
-parameters-requires : tie.Need-parameters-requires
+parameters-requires : tie.Need-parameters-p-requires
 parameters-requires c κs = search rules
 
 -- the threshold is a natural number
@@ -27,13 +27,13 @@ natural : (l : Line) → LineNear line_limit l → (pos 0 ≤ℤ (parameters_of 
 unfolding parameters_of
 natural l h = threshold-natural (delta l) (near-delta h)
 
-larger : (c : tie.After-parameters) → Hold (of_z w64 c.parameters.result.threshold) (parameters_of c.before.args.line).threshold delta_limit
-larger c = hold-as (ap (λ p. p.threshold) c.parameters.ensures) (record { bound = (natural c.before.args.line c.before.requires).1 }) tt
+larger : (c : tie.After-parameters-p) → Hold (of_z w64 c.parameters-p.result.threshold) (parameters_of c.before.args.line).threshold delta_limit
+larger c = hold-as (ap (λ p. p.threshold) c.parameters-p.ensures) (record { bound = (natural c.before.args.line c.before.requires).1 }) tt
 
-add-result : tie.Need-overflow-add-result
+add-result : tie.Need-overflow_add-result
 add-result c = fits-add (larger c.before.before) (literal 1 tt) tt
 
-cast-result : tie.Need-overflow-cast-result
+cast-result : tie.Need-overflow_cast-result
 cast-result c =
     let one = hold-add (larger c.before.before) (literal 1 tt) tt in
     let n = natural c.before.before.before.args.line c.before.before.before.requires in
@@ -45,5 +45,5 @@ returns c =
     let n = natural c.before.before.before.args.line c.before.before.before.requires in
     ap nat_abs ((hold-add (larger c.before.before) (literal 1 tt) tt).is ∙ one_more n.0)
 
-pub major-length-spec : {M : Type 1} → statement M
-major-length-spec = tie.close (tie.spec parameters-requires add-result cast-result returns)
+pub major_length_spec : {M : Type 1} → statement M
+major_length_spec = tie.close (tie.spec parameters-requires add-result cast-result returns)

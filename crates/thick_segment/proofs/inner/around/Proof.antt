@@ -18,5 +18,5 @@ returns c =
       to_z-of_z {w = w64} {z = c.greater.result} (search rules) ∙ c.greater.ensures ∙ of-bits {x = s.a.last} {y = s.b.last} greater (search rules) (search rules),
     )
 
-pub around-spec : {M : Type 1} → statement M
-around-spec = tie.close (tie.spec (λ c κs. search rules) (λ c κs. search rules) returns)
+pub around_spec : {M : Type 1} → statement M
+around_spec = tie.close (tie.spec (λ c κs. search rules) (λ c κs. search rules) returns)

@@ -5,7 +5,7 @@ use Rattle.thick_segment.proofs.inner.box_of.Tie as tie
 
 returns : tie.Need-returns
 unfolding box_of
-returns c = simp (c.before.least.ensures, c.most.ensures)
+returns c = simp (c.before.before.before.least.ensures, c.most.ensures)
 
-pub box-of-spec : {M : Type 1} → statement M
-box-of-spec = tie.close (tie.spec (λ c κs. search rules) (λ c κs. search rules) returns)
+pub box_of_spec : {M : Type 1} → statement M
+box_of_spec = tie.close (tie.spec (λ c κs. search rules) (λ c κs. search rules) returns)

@@ -4,13 +4,13 @@ use Rattle.thick_segment.proofs.Lit.{skeleton-rows, perimeter-rows}
 use Rattle.thick_segment.proofs.inner.drawn_rows.Statement.{statement}
 use Rattle.thick_segment.proofs.inner.drawn_rows.Tie as tie
 
-returns : tie.Need-returns
+returns : tie.Need-returns-then-is_skeleton
 returns c =
-    let t = c.before in
+    let t = c.before.before in
     let d = t.before.before in
-    c.line-rows.ensures ∙ simp d.edges.ensures (sym (skeleton-rows d.before.args.segment (sym t.before.is-skeleton.ensures ∙ t.if1.true)))
+    c.line_rows.ensures ∙ simp d.edges-e.ensures (sym (skeleton-rows d.before.args.segment (sym t.before.is_skeleton.ensures ∙ t.if-is_skeleton.true)))
 
-returns-2 : tie.Need-returns-2
+returns-2 : tie.Need-returns
 returns-2 c =
     let left = c.before in
     let end = left.before in
@@ -21,16 +21,16 @@ returns-2 c =
     let d = t.before.before in
     c.around.ensures
     ∙ simp (
-      end.with-cap-rows2.ensures,
-      start.with-cap-rows.ensures,
-      right.line-rows2.ensures,
-      left.line-rows3.ensures,
-      caps.before.start-caps.ensures,
-      caps.end-caps.ensures,
-      d.edges.ensures,
-    ) (sym (perimeter-rows d.before.args.segment (sym t.before.is-skeleton.ensures ∙ t.if1.false)))
+      end.with_cap_rows-capped.ensures,
+      start.with_cap_rows.ensures,
+      right.line_rows-2.ensures,
+      left.line_rows-3.ensures,
+      caps.before.start_caps-first.ensures,
+      caps.end_caps-last.ensures,
+      d.edges-e.ensures,
+    ) (sym (perimeter-rows d.before.args.segment (sym t.before.is_skeleton.ensures ∙ t.if-is_skeleton.false)))
 
-pub drawn-rows-spec : {M : Type 1} → statement M
-drawn-rows-spec =
+pub drawn_rows_spec : {M : Type 1} → statement M
+drawn_rows_spec =
     tie.close
     (tie.spec (λ c κs. search rules) (λ c κs. search rules) (λ c κs. search rules) returns (λ c κs. search rules) (λ c κs. search rules) (λ c κs. search rules) (λ c κs. search rules) (λ c κs. search rules) (λ c κs. search rules) (λ c κs. search rules) returns-2)

@@ -7,6 +7,6 @@ returns : tie.Need-returns
 unfolding is_segment_near
 returns c = cc
 
-pub is-segment-near-spec : {M : Type 1} → statement M
-is-segment-near-spec =
+pub is_segment_near_spec : {M : Type 1} → statement M
+is_segment_near_spec =
     tie.close (tie.spec (λ c κs. search rules) (λ c κs. search rules) (λ c κs. search rules) returns)

@@ -7,5 +7,5 @@ returns : tie.Need-returns
 unfolding is_skeleton
 returns c = c.same_point.ensures
 
-pub is-skeleton-spec : {M : Type 1} → statement M
-is-skeleton-spec = tie.close (tie.spec (λ c κs. search rules) returns)
+pub is_skeleton_spec : {M : Type 1} → statement M
+is_skeleton_spec = tie.close (tie.spec (λ c κs. search rules) returns)

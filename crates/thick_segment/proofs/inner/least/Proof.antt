@@ -16,7 +16,7 @@ record Known (a b : Point) : Type 0 where
   bx : SFits w64 b.x
   by : SFits w64 b.y
 
-known : (c : tie.After-struct-told4) → Known c.before.before.before.before.args.a c.before.before.before.before.args.b
+known : (c : tie.After-struct_told-4-1) → Known c.before.before.before.before.args.a c.before.before.before.before.args.b
 known c = record { ax = search rules; ay = search rules; bx = search rules; by = search rules }
 
 returns : tie.Need-returns
@@ -25,8 +25,8 @@ returns c =
     let k = known c.before.before in
     simp (
       to_z-of_z {w = w64} {z = c.before.lesser.result} (search rules) ∙ c.before.lesser.ensures ∙ of-bits lesser k.ax k.bx,
-      to_z-of_z {w = w64} {z = c.lesser2.result} (search rules) ∙ c.lesser2.ensures ∙ of-bits lesser k.ay k.by,
+      to_z-of_z {w = w64} {z = c.lesser-2.result} (search rules) ∙ c.lesser-2.ensures ∙ of-bits lesser k.ay k.by,
     )
 
-pub least-spec : {M : Type 1} → statement M
-least-spec = tie.close (tie.spec (λ c κs. search rules) (λ c κs. search rules) returns)
+pub least_spec : {M : Type 1} → statement M
+least_spec = tie.close (tie.spec (λ c κs. search rules) (λ c κs. search rules) returns)

@@ -16,5 +16,5 @@ returns c =
       to_z-of_z {w = w64} {z = c.greater.result} (search rules) ∙ c.greater.ensures ∙ of-bits {x = s.start.y} {y = s.end.y} greater (search rules) (search rules),
     )
 
-pub line-rows-spec : {M : Type 1} → statement M
-line-rows-spec = tie.close (tie.spec (λ c κs. search rules) (λ c κs. search rules) returns)
+pub line_rows_spec : {M : Type 1} → statement M
+line_rows_spec = tie.close (tie.spec (λ c κs. search rules) (λ c κs. search rules) returns)

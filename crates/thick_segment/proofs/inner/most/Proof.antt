@@ -16,7 +16,7 @@ record Known (a b : Point) : Type 0 where
   bx : SFits w64 b.x
   by : SFits w64 b.y
 
-known : (c : tie.After-struct-told4) → Known c.before.before.before.before.args.a c.before.before.before.before.args.b
+known : (c : tie.After-struct_told-4-1) → Known c.before.before.before.before.args.a c.before.before.before.before.args.b
 known c = record { ax = search rules; ay = search rules; bx = search rules; by = search rules }
 
 returns : tie.Need-returns
@@ -25,8 +25,8 @@ returns c =
     let k = known c.before.before in
     simp (
       to_z-of_z {w = w64} {z = c.before.greater.result} (search rules) ∙ c.before.greater.ensures ∙ of-bits greater k.ax k.bx,
-      to_z-of_z {w = w64} {z = c.greater2.result} (search rules) ∙ c.greater2.ensures ∙ of-bits greater k.ay k.by,
+      to_z-of_z {w = w64} {z = c.greater-2.result} (search rules) ∙ c.greater-2.ensures ∙ of-bits greater k.ay k.by,
     )
 
-pub most-spec : {M : Type 1} → statement M
-most-spec = tie.close (tie.spec (λ c κs. search rules) (λ c κs. search rules) returns)
+pub most_spec : {M : Type 1} → statement M
+most_spec = tie.close (tie.spec (λ c κs. search rules) (λ c κs. search rules) returns)

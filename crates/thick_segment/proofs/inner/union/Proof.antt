@@ -5,7 +5,7 @@ use Rattle.thick_segment.proofs.inner.union.Tie as tie
 
 returns : tie.Need-returns
 unfolding union
-returns c = simp (c.before.least.ensures, c.most.ensures)
+returns c = simp (c.before.before.before.least.ensures, c.most.ensures)
 
-pub union-spec : {M : Type 1} → statement M
-union-spec = tie.close (tie.spec (λ c κs. search rules) (λ c κs. search rules) returns)
+pub union_spec : {M : Type 1} → statement M
+union_spec = tie.close (tie.spec (λ c κs. search rules) (λ c κs. search rules) returns)

@@ -9,5 +9,5 @@ returns c =
     let s = c.before.before.before.args.corners in
     cc (to_z-of_z {w = w64} {z = s.left.y} (search rules), to_z-of_z {w = w64} {z = s.right.y} (search rules), to_z-of_z {w = w64} {z = c.lesser.result} (search rules))
 
-pub upper-spec : {M : Type 1} → statement M
-upper-spec = tie.close (tie.spec (λ c κs. search rules) returns)
+pub upper_spec : {M : Type 1} → statement M
+upper_spec = tie.close (tie.spec (λ c κs. search rules) returns)

@@ -4,27 +4,27 @@ use Rattle.thick_segment.specs.Rows.{with_lines}
 use Rattle.thick_segment.proofs.inner.with_cap_rows.Statement.{statement}
 use Rattle.thick_segment.proofs.inner.with_cap_rows.Tie as tie
 
-returns : tie.Need-returns
+returns : tie.Need-returns-in-One
 unfolding with_lines
 returns c =
     let line = c.before in
     let k = line.before.before in
-    c.around.ensures ∙ simp (k.caps.given.1, line.line-rows.ensures) refl
+    c.around.ensures ∙ simp (k.caps-1.given.1, line.line_rows.ensures) refl
 
-returns-2 : tie.Need-returns-2
+returns-2 : tie.Need-returns-in-Two
 unfolding with_lines
 returns-2 c =
     let second = c.before in
     let first = second.before.before in
     let k = first.before.before in
-    c.around3.ensures ∙ simp (k.caps2.given.1, second.line-rows3.ensures, second.before.around2.ensures, first.line-rows2.ensures) refl
+    c.around-in-Two-2.ensures ∙ simp (k.caps-in-Two-1.given.1, second.line_rows-in-Two-2.ensures, second.before.around-in-Two.ensures, first.line_rows-in-Two.ensures) refl
 
-returns-3 : tie.Need-returns-3
+returns-3 : tie.Need-returns-in-Refused
 unfolding with_lines
-returns-3 c = simp c.enum_told.given.1 refl
+returns-3 c = simp c.enum_told-1.given.1 refl
 
-pub with-cap-rows-spec : {M : Type 1} → statement M
-with-cap-rows-spec =
+pub with_cap_rows_spec : {M : Type 1} → statement M
+with_cap_rows_spec =
     tie.close
     (tie.spec
     (λ c. search rules)

@@ -4,23 +4,23 @@ use Rattle.thick_segment.specs.Segments.{placed}
 use Rattle.thick_segment.proofs.inner.with_caps.Statement.{statement}
 use Rattle.thick_segment.proofs.inner.with_caps.Tie as tie
 
-returns : tie.Need-returns
+returns : tie.Need-returns-in-One
 unfolding placed
-returns c = let k = c.before.before in c.with-line.ensures ∙ simp k.caps.given.1
+returns c = let k = c.before.before in c.with_line.ensures ∙ simp k.caps-1.given.1
 
-returns-2 : tie.Need-returns-2
+returns-2 : tie.Need-returns-in-Two
 unfolding placed
 returns-2 c =
     let w = c.before in
     let k = w.before.before in
-    c.with-line3.ensures ∙ simp (k.caps2.given.1, w.with-line2.ensures)
+    c.with_line-in-Two-2.ensures ∙ simp (k.caps-in-Two-1.given.1, w.with_line-in-Two.ensures)
 
-returns-3 : tie.Need-returns-3
+returns-3 : tie.Need-returns-in-Refused
 unfolding placed
-returns-3 c = simp c.enum_told.given.1
+returns-3 c = simp c.enum_told-1.given.1
 
-pub with-caps-spec : {M : Type 1} → statement M
-with-caps-spec =
+pub with_caps_spec : {M : Type 1} → statement M
+with_caps_spec =
     tie.close
     (tie.spec
     (λ c. search rules)

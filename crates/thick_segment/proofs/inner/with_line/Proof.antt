@@ -5,5 +5,5 @@ use Rattle.thick_segment.proofs.inner.with_line.Tie as tie
 returns : tie.Need-returns
 returns c = rw c.coordinates.ensures
 
-pub with-line-spec : {M : Type 1} → statement M
-with-line-spec = tie.close (tie.spec (λ c κs. search rules) (λ c. search rules) (λ c. search rules) returns)
+pub with_line_spec : {M : Type 1} → statement M
+with_line_spec = tie.close (tie.spec (λ c κs. search rules) (λ c. search rules) (λ c. search rules) returns)

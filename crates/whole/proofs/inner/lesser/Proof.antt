@@ -4,13 +4,13 @@ use Rattle.whole.proofs.Machine.{lt_back}
 use Rattle.whole.proofs.inner.lesser.Statement.{statement}
 use Rattle.whole.proofs.inner.lesser.Tie as tie
 
-returns : tie.Need-returns
+returns : tie.Need-returns-then-b-a
 unfolding lesser
-returns c = let f = c.before.ranges in simp (to_z-of_z f.b, lt_back f.b f.a c.if1.true)
+returns c = let f = c.before.ranges in simp (to_z-of_z f.b, lt_back f.b f.a c.if-b-a.true)
 
-returns-2 : tie.Need-returns-2
+returns-2 : tie.Need-returns-else-b-a
 unfolding lesser
-returns-2 c = let f = c.before.ranges in simp (to_z-of_z f.a, lt_back f.b f.a c.if1.false)
+returns-2 c = let f = c.before.ranges in simp (to_z-of_z f.a, lt_back f.b f.a c.if-b-a.false)
 
-pub lesser-spec : {M : Type 1} → statement M
-lesser-spec = tie.close (tie.spec returns returns-2)
+pub lesser_spec : {M : Type 1} → statement M
+lesser_spec = tie.close (tie.spec returns returns-2)

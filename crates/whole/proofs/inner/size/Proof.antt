@@ -31,9 +31,9 @@ not-below : (x : ℤ) → lt_z x (pos 0) ≡ false → SFits w64 x → T (non_ne
 not-below (pos n) e f = (tt, record { fits = omega (arith, f.sfits) })
 not-below (negsuc n) e f = absurd (omega (arith, lt-false (negsuc n) (pos 0) e))
 
-module _ (c : tie.Then1) where
+module _ (c : tie.Then-x-lt0) where
   below : lt_z c.before.args.x (pos 0) ≡ true
-  below = simp (to_z-of_z c.before.ranges.x) at c.if1.true
+  below = simp (to_z-of_z c.before.ranges.x) at c.if-x-lt0.true
 
   small : Within (c.before.args.x +ℤ pos 1) (2 ^ 63 - 1)
   small =
@@ -48,28 +48,28 @@ module _ (c : tie.Then1) where
   back : to_z w64 (of_z w64 (pos 0 -ℤ to_z w64 (of_z w64 (to_z w64 (of_z w64 c.before.args.x) +ℤ pos 1)))) ≡ pos (mag c.before.args.x)
   back = (hold-neg next tt).is ∙ turned c.before.args.x below
 
-add-result : tie.Need-overflow-add-result
+add-result : tie.Need-overflow_add-result
 add-result c = rw (to_z-of_z c.before.ranges.x) (fits (2 ^ 63 - 1) (small c) tt)
 
-sub-result : tie.Need-overflow-sub-result
+sub-result : tie.Need-overflow_sub-result
 sub-result c = fits_neg (next c) tt
 
-cast-result : tie.Need-overflow-cast-result
+cast-result : tie.Need-overflow_cast-result
 cast-result c = rw (back c) (tt, record { fits = omega (arith, c.before.ranges.x.sfits) })
 
-add-result-2 : tie.Need-overflow-add-result-2
+add-result-2 : tie.Need-overflow_add-result-then-x-lt0
 add-result-2 c = rw (back c) (record { fits = omega (arith, c.before.ranges.x.sfits) })
 
-returns : tie.Need-returns
+returns : tie.Need-returns-then-x-lt0
 returns c = rw (back c) (one_less c.before.args.x (below c))
 
-cast-result-2 : tie.Need-overflow-cast-result-2
+cast-result-2 : tie.Need-overflow_cast-result-2
 cast-result-2 c =
     let f = c.before.ranges.x in
-    rw (to_z-of_z f) (not-below c.before.args.x (simp (to_z-of_z f) at c.if1.false) f)
+    rw (to_z-of_z f) (not-below c.before.args.x (simp (to_z-of_z f) at c.if-x-lt0.false) f)
 
-returns-2 : tie.Need-returns-2
+returns-2 : tie.Need-returns
 returns-2 c = ap nat_abs (to_z-of_z c.before.ranges.x)
 
-pub size-spec : {M : Type 1} → statement M
-size-spec = tie.close (tie.spec add-result sub-result cast-result add-result-2 returns cast-result-2 returns-2)
+pub size_spec : {M : Type 1} → statement M
+size_spec = tie.close (tie.spec add-result sub-result cast-result add-result-2 returns cast-result-2 returns-2)

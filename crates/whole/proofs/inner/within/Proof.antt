@@ -16,32 +16,32 @@ use Rattle.whole.proofs.inner.within.Tie as tie
 most : (c : tie.Start) → Hold c.args.limit (pos c.args.limit) (2 ^ 32)
 most c = hold {z = pos c.args.limit} (record { bound = omega (arith, c.ranges.limit) }) tt
 
-returns : tie.Need-returns
+returns : tie.Need-returns-then-most-x
 unfolding is_within
 returns c =
     let x = c.before.args.x in
-    let above = simp (to_z-of_z c.before.ranges.x, (most c.before).is) at c.if1.true in
+    let above = simp (to_z-of_z c.before.ranges.x, (most c.before).is) at c.if-most-x.true in
     sym (lt-leb (nat_abs x) c.before.args.limit (omega (linear, abs-parts x)))
 
-sub-if2 : tie.Need-overflow-sub-if2
+sub-if2 : tie.Need-overflow_sub-most
 sub-if2 c = fits_neg (most c.before) tt
 
-returns-2 : tie.Need-returns-2
+returns-2 : tie.Need-returns-then-x-most
 unfolding is_within
 returns-2 c =
     let s = c.before.before in
     let x = s.args.x in
-    let below = simp (to_z-of_z s.ranges.x, (hold-neg (most s) tt).is) at c.if2.true in
+    let below = simp (to_z-of_z s.ranges.x, (hold-neg (most s) tt).is) at c.if-x-most.true in
     sym (lt-leb (nat_abs x) s.args.limit (omega (linear, abs-parts x, opp (pos s.args.limit))))
 
-returns-3 : tie.Need-returns-3
+returns-3 : tie.Need-returns
 unfolding is_within
 returns-3 c =
     let s = c.before.before in
     let x = s.args.x in
-    let not-above = simp (to_z-of_z s.ranges.x, (most s).is) at c.before.if1.false in
-    let not-below = simp (to_z-of_z s.ranges.x, (hold-neg (most s) tt).is) at c.if2.false in
+    let not-above = simp (to_z-of_z s.ranges.x, (most s).is) at c.before.if-most-x.false in
+    let not-below = simp (to_z-of_z s.ranges.x, (hold-neg (most s) tt).is) at c.if-x-most.false in
     sym (le-leb (nat_abs x) s.args.limit (abs-le x (omega linear) (omega (linear, opp (pos s.args.limit)))))
 
-pub within-spec : {M : Type 1} → statement M
-within-spec = tie.close (tie.spec (λ c. search rules) returns sub-if2 returns-2 returns-3)
+pub within_spec : {M : Type 1} → statement M
+within_spec = tie.close (tie.spec (λ c. search rules) returns sub-if2 returns-2 returns-3)
