@@ -21,7 +21,7 @@ abbrev decreases-loop : tie.decreases-loop-i
 decreases-loop coordinates width closed rows out₀ last₀ i₀ out last i = length rows - i
 
 loop-holds : tie.Need-loop-i-init invariant-loop decreases-loop
-loop-holds c = let a = c.before.args in (omega arith, (refl, left-all panel a.closed a.coordinates.now (to_z w64 (of_z w64 a.width)) a.rows.now a.out-1.now c.refused-last.ensures))
+loop-holds c = let a = c.before.args in (omega arith, (refl, left-all panel a.closed a.coordinates.now (to_z w64 (of_z w64 a.width)) a.rows.now a.out.now c.refused-last.ensures))
 
 loop-again : tie.Need-loop-i-preserved invariant-loop decreases-loop
 loop-again c =
@@ -32,7 +32,7 @@ loop-again c =
       omega arith,
       (
         search rules,
-        left-more panel a.closed a.coordinates.now (to_z w64 (of_z w64 a.width)) a.rows.now a.out-1.now l.loop-i.i l.loop-i.last l.loop-i.out (omega arith) inv.1.0 told.0 told.1 inv.1.1,
+        left-more panel a.closed a.coordinates.now (to_z w64 (of_z w64 a.width)) a.rows.now a.out.now l.loop-i.i l.loop-i.last l.loop-i.out (omega arith) inv.1.0 told.0 told.1 inv.1.1,
       ),
     )
 
@@ -41,7 +41,7 @@ returns c =
     let l = c.before.before in
     let s = l.before.before in
     let a = s.args in
-    let all = left-none panel a.closed a.coordinates.now (to_z w64 (of_z w64 a.width)) a.rows.now a.out-1.now l.loop-i.i l.loop-i.last l.loop-i.out (omega (arith, l.loop-i.invariant.0)) l.loop-i.invariant.1.1 in
+    let all = left-none panel a.closed a.coordinates.now (to_z w64 (of_z w64 a.width)) a.rows.now a.out.now l.loop-i.i l.loop-i.last l.loop-i.out (omega (arith, l.loop-i.invariant.0)) l.loop-i.invariant.1.1 in
     let told = rw (to_z-of_z s.ranges.width) at all in
     (to_z-of_z {w = w64} {z = l.loop-i.last.total} (search rules) ∙ told.0, told.1)
 

@@ -40,12 +40,12 @@ returns c =
     let s = p.before.before in
     let a = s.args in
     let w = to_z w64 (of_z w64 a.width) in
-    let none = nothing-drawn panel a.closed a.coordinates.now w (refused-with panel a.closed a.coordinates.now w (told p)) c.if-route-ne0.true a.rows.now a.out-1.now in
+    let none = nothing-drawn panel a.closed a.coordinates.now w (refused-with panel a.closed a.coordinates.now w (told p)) c.if-route-ne0.true a.rows.now a.out.now in
     let is = rw (to_z-of_z s.ranges.width) at none in
     (sym is.0, sym is.1)
 
 loop-holds : tie.Need-loop-i-init invariant-loop decreases-loop
-loop-holds c = let a = c.before.before.before.before.before.args in (omega arith, (refl, left-all panel a.closed a.coordinates.now (to_z w64 (of_z w64 a.width)) a.rows.now a.out-1.now c.refused-last.ensures))
+loop-holds c = let a = c.before.before.before.before.before.args in (omega arith, (refl, left-all panel a.closed a.coordinates.now (to_z w64 (of_z w64 a.width)) a.rows.now a.out.now c.refused-last.ensures))
 
 loop-again : tie.Need-loop-i-preserved invariant-loop decreases-loop
 loop-again c =
@@ -59,7 +59,7 @@ loop-again c =
       omega arith,
       (
         search rules,
-        left-more panel a.closed a.coordinates.now (to_z w64 (of_z w64 a.width)) a.rows.now a.out-1.now l.loop-i.i l.loop-i.last l.loop-i.out (omega arith) inv.1.0
+        left-more panel a.closed a.coordinates.now (to_z w64 (of_z w64 a.width)) a.rows.now a.out.now l.loop-i.i l.loop-i.last l.loop-i.out (omega arith) inv.1.0
             (drawn.0 ∙ row_made panel a.closed a.coordinates.now w (free e) y (length l.loop-i.out)) (drawn.1 ∙ list-made panel a.closed a.coordinates.now w (free e) y l.loop-i.out) inv.1.1,
       ),
     )
@@ -69,7 +69,7 @@ returns-2 c =
     let l = c.before.before in
     let s = l.before.before.before.before.before.before in
     let a = s.args in
-    let all = left-none panel a.closed a.coordinates.now (to_z w64 (of_z w64 a.width)) a.rows.now a.out-1.now l.loop-i.i l.loop-i.last l.loop-i.out (omega (arith, l.loop-i.invariant.0)) l.loop-i.invariant.1.1 in
+    let all = left-none panel a.closed a.coordinates.now (to_z w64 (of_z w64 a.width)) a.rows.now a.out.now l.loop-i.i l.loop-i.last l.loop-i.out (omega (arith, l.loop-i.invariant.0)) l.loop-i.invariant.1.1 in
     let told = rw (to_z-of_z s.ranges.width) at all in
     (to_z-of_z {w = w64} {z = l.loop-i.last.total} (search rules) ∙ told.0, told.1)
 

@@ -156,7 +156,7 @@ module _ {M : Type 1} {𝓤 : Ura M} (𝓛 : Logic 𝓤) (mem : Memory → SProp
   abbrev to-list : (ListWithin 𝓛 mem run).Ghost
   to-list = (((κ, tt), (q, tt), tt, (d, (corner_limit, (m, (x, tt)))), (held d ∷ [], (vint w32 corner_limit ∷ [], (vint w64 m ∷ [], (s ∷ [], tt))))), tt)
 
-  goes-list : ent 𝓤 (sep 𝓤 (sep 𝓤 (A.lft κ q) (sem 𝓛 ftrue)) (sem 𝓛 Numbers)) ((ListWithin 𝓛 mem run).pre to-list)
+  goes-list : ent 𝓤 (sep 𝓤 (sep 𝓤 (A.lft κ q) (sem 𝓛 ftrue)) (sem 𝓛 Numbers)) ((ListWithin 𝓛 mem run).requires to-list)
   goes-list =
       qed 𝓛 (token ∷ ‵ Numbers ∷ []) ∵ says ! (lit≤ tt) $ frame ! $ nothing ! $ move ! (1 ∷ 0 ∷ []) $ fjoin ! $
       owned ! usize (Is usize) (uint_Makes 𝓛 w64) m _ (refl, rm'.0) $ fjoin ! $ owned ! u32 (Is u32) (uint_Makes 𝓛 w32) corner_limit _ (refl, lit< tt) $ fjoin ! $
@@ -168,7 +168,7 @@ module _ {M : Type 1} {𝓤 : Ura M} (𝓛 : Logic 𝓤) (mem : Memory → SProp
   room_of : (r : Listed) → r ≡ both_listed corner_limit d n m → (r.count ≤ board_runs) × (r.count ≤ m)
   room_of r e = rw e (room-copied corner_limit d n y.now)
 
-  goes-copy : (r : Listed) → r ≡ both_listed corner_limit d n m → r.count < 2 ^ 64 → ent 𝓤 (sep 𝓤 (sep 𝓤 (A.lft κ' q') (sem 𝓛 ftrue)) (sem 𝓛 Records)) ((CopyRuns 𝓛 mem run).pre (to-copy r))
+  goes-copy : (r : Listed) → r ≡ both_listed corner_limit d n m → r.count < 2 ^ 64 → ent 𝓤 (sep 𝓤 (sep 𝓤 (A.lft κ' q') (sem 𝓛 ftrue)) (sem 𝓛 Records)) ((CopyRuns 𝓛 mem run).requires (to-copy r))
   goes-copy r e fits =
       qed 𝓛 (token' ∷ ‵ Records ∷ []) ∵ says ! (room_of r e) $ frame ! $ nothing ! $ move ! (1 ∷ 0 ∷ []) $ fjoin ! $
       owned ! usize (Is usize) (uint_Makes 𝓛 w64) r.count _ (refl, fits) $ fjoin ! $ owned ! B.the_row (Is B.the_row) (LL.makes B.the_type B'.the_plain 𝓛) d _ d-is $ fjoin ! $ done !
@@ -187,7 +187,7 @@ module _ {M : Type 1} {𝓤 : Ura M} (𝓛 : Logic 𝓤) (mem : Memory → SProp
         assigns ! (addr ! (from ! (fld ! refl (hop ! (look_in ! 16 (sub ! 0 refl (whole !))) (stop !))))) (from ! (stop !)) (init ! 8 refl (tt, tt)) $
         assigns ! (agg ! (and_then ! (load ! (from ! (stop !)) (look ! 8 refl)) (and_then ! (load ! (from ! (fld ! refl (stop !))) (look_in ! 16 (sub ! 1 refl (whole !)))) (no_more !)))) (from ! (stop !)) (init ! 6 refl (tt, (tt, (record { fits = rm.0 }, tt)))) $
         -- `list_within`
-        move ! (22 ∷ []) $ nothing ! $ move ! (1 ∷ 0 ∷ []) $ join ! $ move ! (0 ∷ 24 ∷ []) $ use2 𝓛 (raw ((ListWithin 𝓛 mem run).pre to-list)) goes-list $
+        move ! (22 ∷ []) $ nothing ! $ move ! (1 ∷ 0 ∷ []) $ join ! $ move ! (0 ∷ 24 ∷ []) $ use2 𝓛 (raw ((ListWithin 𝓛 mem run).requires to-list)) goes-list $
         calls_at ! fm (ListWithin 𝓛 mem run) known-list to-list (and_then ! (load ! (from ! (stop !)) (look ! 19 refl)) (and_then ! (constant ! (record { fits = lit< tt })) (and_then ! (load ! (from ! (stop !)) (look ! 11 refl)) (and_then ! (load ! (from ! (stop !)) (look ! 7 refl)) (no_more !))))) (λ v.
         use1 𝓛 (later (some (λ (r : Listed). (token ⊛ ‵ ((S.the_row).own_val r (v ∷ []))) ⊛ raw (ensured 𝓛 list-within.ended (list-within.clauses 𝓛 mem run) (κ, tt) (d, (corner_limit, (m, (x, tt)))) tt r)))) (id⊢ 𝓤 _) $ await ! tt $ pick ! (λ r.
         split ! $ move ! (1 ∷ []) $ use1 𝓛 (some (λ (ws : Unit {0} × (Unit {0} × (Unit {0} × (List ℤ × Unit {0})))). ‵ (lasts list-within.ended (κ, tt) (d, (corner_limit, (m, (x, tt)))) ws) ⊛ raw (fact 𝓤 (Answered r ws.1.1.1.0)))) (id⊢ 𝓤 _) $ pick ! (λ ws.
@@ -201,7 +201,7 @@ module _ {M : Type 1} {𝓤 : Ura M} (𝓛 : Logic 𝓤) (mem : Memory → SProp
         assigns ! (addr ! (from ! (fld ! refl (hop ! (look_in ! 16 (sub ! 0 refl (whole !))) (stop !))))) (from ! (stop !)) (init ! 4 refl (tt, tt)) $
         assigns ! (agg ! (and_then ! (load ! (from ! (stop !)) (look ! 4 refl)) (and_then ! (load ! (from ! (fld ! refl (stop !))) (look_in ! 16 (sub ! 1 refl (whole !)))) (no_more !)))) (from ! (stop !)) (init ! 2 refl (tt, (tt, (record { fits = rm'.0 }, tt)))) $
         -- `copy_runs`
-        move ! (24 ∷ 25 ∷ []) $ use2 𝓛 (raw ((CopyRuns 𝓛 mem run).pre (to-copy r))) (goes-copy r e.0 (count_fits r v is)) $
+        move ! (24 ∷ 25 ∷ []) $ use2 𝓛 (raw ((CopyRuns 𝓛 mem run).requires (to-copy r))) (goes-copy r e.0 (count_fits r v is)) $
         calls_at ! fm (CopyRuns 𝓛 mem run) known-copy (to-copy r) (and_then ! (load ! (from ! (stop !)) (look ! 21 refl)) (and_then ! (load ! (from ! (fld ! refl (stop !))) (look_in ! 15 (sub ! 1 refl (whole !)))) (and_then ! (load ! (from ! (stop !)) (look ! 3 refl)) (no_more !)))) (λ v'.
         use1 𝓛 (later (some (λ (u : Unit {0}). (token' ⊛ ‵ (unit.own_val u (v' ∷ []))) ⊛ raw (ensured 𝓛 copy-runs.ended (copy-runs.clauses 𝓛 mem run) (κ', tt) (d, (r.count, (y, tt))) tt u)))) (id⊢ 𝓤 _) $ await ! tt $ pick ! (λ u.
         split ! $ move ! (1 ∷ []) $ use1 𝓛 (some (λ (ws : Unit {0} × (Unit {0} × (List Run × Unit {0}))). ‵ (lasts copy-runs.ended (κ', tt) (d, (r.count, (y, tt))) ws) ⊛ raw (fact 𝓤 (Copied r ws.1.1.0)))) (id⊢ 𝓤 _) $ pick ! (λ ws'.

@@ -25,7 +25,7 @@ returns c =
     let p = c.before.before.before in
     let a = p.before.before.args in
     row-stopped panel a.closed a.coordinates.now a.width (refused-with panel a.closed a.coordinates.now a.width (told p)) c.before.if-route-ne0.true
-    (named-with panel a.closed a.coordinates.now a.width (told p)) a.row a.out-1.now c.refused.ensures
+    (named-with panel a.closed a.coordinates.now a.width (told p)) a.row a.out.now c.refused.ensures
 
 returns-2 : tie.Need-returns
 returns-2 c =
@@ -37,8 +37,8 @@ returns-2 c =
     let joins = p.prepare-route.result.joins in
     let f = free e in
     let row = to_z-of_z s.ranges.row in (
-      r.row_of.ensures.0 ∙ ap (λ y. answer_on panel.corner joins y (length a.out-1.now)) row ∙ row_made panel a.closed a.coordinates.now a.width f a.row (length a.out-1.now),
-      r.row_of.ensures.1 ∙ ap (λ y. list_on panel.corner joins y a.out-1.now) row ∙ list-made panel a.closed a.coordinates.now a.width f a.row a.out-1.now,
+      r.row_of.ensures.0 ∙ ap (λ y. answer_on panel.corner joins y (length a.out.now)) row ∙ row_made panel a.closed a.coordinates.now a.width f a.row (length a.out.now),
+      r.row_of.ensures.1 ∙ ap (λ y. list_on panel.corner joins y a.out.now) row ∙ list-made panel a.closed a.coordinates.now a.width f a.row a.out.now,
     )
 
 pub row_spec : {M : Type 1} → statement M

@@ -3,7 +3,6 @@ use borrow.Author.Rules.{rules}
 use mathlib.Core.Path.{◌≡◌, sym, ◌∙◌}
 use mathlib.Core.Bool.{true}
 use native.Mathlib.Omega.{arith}
-use borrow.Author.Tests.{not-true, not-false}
 use lib.IntN.{pos}
 use Rattle.whole.proofs.Machine.{Hold, hold}
 use Rattle.route_file.specs.Form.{is_formed, Formed}
@@ -16,10 +15,10 @@ is-formed-requires : tie.Need-is_formed-requires
 is-formed-requires c κs = search rules
 
 returns : tie.Need-returns-then-not-is_formed
-returns c = entry-nine _ _ (sym c.before.is_formed.ensures ∙ not-true _ c.if-not-is_formed.true)
+returns c = entry-nine _ _ (sym c.before.is_formed.ensures ∙ c.if-not-is_formed.true)
 
 passed : (c : tie.Else-not-is_formed) → is_formed c.before.before.before.args.file.now ≡ true
-passed c = sym c.before.is_formed.ensures ∙ not-false _ c.if-not-is_formed.false
+passed c = sym c.before.is_formed.ensures ∙ c.if-not-is_formed.false
 
 formed : (c : tie.Else-not-is_formed) → Formed c.before.before.before.args.file.now
 formed c = true-formed _ (passed c)

@@ -4,7 +4,6 @@ use mathlib.Core.Path.{◌≡◌, sym, ap, ◌∙◌}
 use mathlib.Core.Bool.{true}
 use Prim.Native.Nat.{◌*◌, ◌<◌}
 use native.Mathlib.Omega.{arith}
-use borrow.Author.Tests.{not-true, not-false}
 use lib.Seq.{sets}
 use Rattle.route_file.specs.Numbers.{signed_from}
 use Rattle.route_file.specs.Form.{route_count, entry_at, is_formed, Formed}
@@ -19,10 +18,10 @@ is-formed-requires c κs = search rules
 returns : tie.Need-returns-then-not-is_formed
 returns c =
     let a = c.before.before.before.args in
-    points-nine a.file.now a.k a.out-1.now (sym c.before.is_formed.ensures ∙ not-true _ c.if-not-is_formed.true)
+    points-nine a.file.now a.k a.out.now (sym c.before.is_formed.ensures ∙ c.if-not-is_formed.true)
 
 passed : (c : tie.Else-not-is_formed) → is_formed c.before.before.before.args.file.now ≡ true
-passed c = sym c.before.is_formed.ensures ∙ not-false _ c.if-not-is_formed.false
+passed c = sym c.before.is_formed.ensures ∙ c.if-not-is_formed.false
 
 formed : (c : tie.Else-not-is_formed) → Formed c.before.before.before.args.file.now
 formed c = true-formed _ (passed c)
@@ -33,7 +32,7 @@ count-of-requires c κs = (formed c).header
 returns-2 : tie.Need-returns-then-count_of-k
 returns-2 c =
     let a = c.before.before.before.before.before.args in
-    points_none a.file.now a.k a.out-1.now (passed c.before.before) (rw c.before.count_of.ensures at c.if-count_of-k.true)
+    points_none a.file.now a.k a.out.now (passed c.before.before) (rw c.before.count_of.ensures at c.if-count_of-k.true)
 
 entry-at-requires : tie.Need-entry_at-entry-requires
 entry-at-requires c κs = omega (arith, (formed c.before.before).entries, c.before.count_of.ensures, c.if-count_of-k.false)
@@ -56,7 +55,7 @@ returns-3 : tie.Need-returns-then-out-count
 returns-3 c =
     let e = c.before.before in
     let a = e.before.before.before.before.before.before.args in
-    points-short a.file.now a.k a.out-1.now (passed e.before.before.before) (known e.before) (omega (arith, said e, c.if-out-count.true))
+    points-short a.file.now a.k a.out.now (passed e.before.before.before) (known e.before) (omega (arith, said e, c.if-out-count.true))
 
 cast-write-numbers : tie.Need-overflow_cast-entry
 cast-write-numbers c = search rules
@@ -75,9 +74,9 @@ returns-4 c =
     let w = c.before in
     let e = w.before.before.before.before.before in
     let a = e.before.before.before.before.before.before.args in
-    let all = points-all a.file.now a.k a.out-1.now (passed e.before.before.before) (known e.before) (omega (arith, said e, w.before.before.before.if-out-count.false)) in (
+    let all = points-all a.file.now a.k a.out.now (passed e.before.before.before) (known e.before) (omega (arith, said e, w.before.before.before.if-out-count.false)) in (
       ap (λ m. answer 0 (2 * m.points)) e.entry_at-entry.ensures ∙ all.0,
-      w.write_numbers.ensures ∙ (ap (λ m. sets a.out-1.now 0 (signed_from a.file.now m.offset (2 * m.points))) e.entry_at-entry.ensures ∙ all.1),
+      w.write_numbers.ensures ∙ (ap (λ m. sets a.out.now 0 (signed_from a.file.now m.offset (2 * m.points))) e.entry_at-entry.ensures ∙ all.1),
     )
 
 pub points_spec : {M : Type 1} → statement M

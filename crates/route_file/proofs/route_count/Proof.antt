@@ -2,7 +2,6 @@
 use borrow.Author.Rules.{rules}
 use mathlib.Core.Path.{◌≡◌, sym, ◌∙◌}
 use mathlib.Core.Bool.{true}
-use borrow.Author.Tests.{not-true, not-false}
 use Rattle.route_file.specs.Form.{is_formed}
 use Rattle.route_file.specs.Answers.{form_refusal, counted}
 use Rattle.route_file.proofs.Laws.{true-formed}
@@ -14,10 +13,10 @@ is-formed-requires c κs = search rules
 
 returns : tie.Need-returns-then-not-is_formed
 unfolding counted form_refusal
-returns c = rw (sym c.before.is_formed.ensures ∙ not-true _ c.if-not-is_formed.true)
+returns c = rw (sym c.before.is_formed.ensures ∙ c.if-not-is_formed.true)
 
 passed : (c : tie.Else-not-is_formed) → is_formed c.before.before.before.args.file.now ≡ true
-passed c = sym c.before.is_formed.ensures ∙ not-false _ c.if-not-is_formed.false
+passed c = sym c.before.is_formed.ensures ∙ c.if-not-is_formed.false
 
 count-of-requires : tie.Need-count_of-requires
 count-of-requires c κs = (true-formed _ (passed c)).header

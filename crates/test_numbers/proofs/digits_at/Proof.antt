@@ -3,7 +3,6 @@
 use mathlib.Core.Path.{◌≡◌, refl, sym, ◌∙◌}
 use native.Mathlib.Omega.{arith}
 use borrow.Author.Rules.{rules}
-use borrow.Author.Tests.{not-true, not-false}
 use Rattle.test_numbers.specs.Numbers.{digits_from, digits_at}
 use Rattle.test_numbers.proofs.Reading.{Turn, turn, digits-end, digits-stop}
 use Rattle.test_numbers.proofs.digits_at.Statement.{statement}
@@ -28,7 +27,7 @@ is-digit-requires c κs = tt
 returns : tie.Need-returns-then-not-is_digit invariant-loop decreases-loop
 returns c =
     let m = c.before.before in
-    sym (digits-stop _ _ _ _ m.byte_at-b.ensures (sym c.before.is_digit.ensures ∙ not-true _ c.if-not-is_digit.true)) ∙ m.before.before.loop-left.invariant
+    sym (digits-stop _ _ _ _ m.byte_at-b.ensures (sym c.before.is_digit.ensures ∙ c.if-not-is_digit.true)) ∙ m.before.before.loop-left.invariant
 
 abbrev loop : tie.Else-not-is_digit invariant-loop decreases-loop → tie.At-loop-left invariant-loop decreases-loop
 loop c = c.before.before.before.before
@@ -37,7 +36,7 @@ loop c = c.before.before.before.before
 turned : (c : tie.Else-not-is_digit invariant-loop decreases-loop) → Turn (loop c).before.before.args.s.now (loop c).before.before.args.at (loop c).loop-left.left (loop c).loop-left.value (loop c).loop-left.next c.before.before.byte_at-b.result
 turned c =
     let m = c.before.before in
-    turn m.before.loop-left-test.true m.byte_at-b.ensures (sym c.before.is_digit.ensures ∙ not-false _ c.if-not-is_digit.false) m.before.before.loop-left.invariant
+    turn m.before.loop-left-test.true m.byte_at-b.ensures (sym c.before.is_digit.ensures ∙ c.if-not-is_digit.false) m.before.before.loop-left.invariant
 
 mul-value : tie.Need-overflow_mul-value invariant-loop decreases-loop
 mul-value c = omega (arith, turned c)

@@ -24,17 +24,17 @@ decreases-loop board n runs₀ count₀ next₀ runs count next = n - next
 -- ---- the run is put after the front; what is left then is the board's
 
 module _ (s : tie.Start invariant-loop decreases-loop) where
-  long : length s.args.t1.runs ≡ 32
+  long : length s.args.board.runs ≡ 32
   long = search (rules, length-mapped)
 
   room : s.args.front.count < 32
-  room = omega (arith, filling-length s.pre.1.0.filling, s.pre.1.1)
+  room = omega (arith, filling-length s.requires.1.0.filling, s.requires.1.1)
 
-  begun : let f = s.args.front in Filling (set f.runs-1 f.count f.run-1) (f.count + 1) (drop f.next (live s.args.t1)) (whole_of f (live s.args.t1))
-  begun = filling-turn s.pre.1.0.filling room
+  begun : let f = s.args.front in Filling (set f.runs f.count f.run) (f.count + 1) (drop f.next (live s.args.board)) (whole_of f (live s.args.board))
+  begun = filling-turn s.requires.1.0.filling room
 
   -- the whole answer again, from there
-  again : let f = s.args.front in take (f.count + 1) (set f.runs-1 f.count f.run-1) ++ drop f.next (live s.args.t1) ≡ whole_of f (live s.args.t1)
+  again : let f = s.args.front in take (f.count + 1) (set f.runs f.count f.run) ++ drop f.next (live s.args.board) ≡ whole_of f (live s.args.board)
   again = filling-all begun
 
 -- ---- in a turn: the next run of the answer is the board's
@@ -43,25 +43,25 @@ module _ (c : tie.In-loop-next invariant-loop decreases-loop) where
   abbrev start : tie.Start invariant-loop decreases-loop
   start = c.before.before.before.before
 
-  turn : let b = start.args.t1 in let f = start.args.front in let l = c.before.loop in
+  turn : let b = start.args.board in let f = start.args.front in let l = c.before.loop-next in
       Filling l.runs l.count (get_or b.runs l.next no_run ∷ drop (l.next + 1) (live b)) (take (f.count + 1) (set f.runs f.count f.run) ++ drop f.next (live b))
-  turn = rw (live_more start.args.t1 c.before.loop.next (omega arith) (omega (arith, long start))) at c.before.loop.invariant.1
+  turn = rw (live_more start.args.board c.before.loop-next.next (omega arith) (omega (arith, long start))) at c.before.loop-next.invariant.1
 
   below : c.before.loop-next.count < 32
-  below = omega (arith, filling-length (rw (again start) at turn), start.pre.1.1)
+  below = omega (arith, filling-length (rw (again start) at turn), start.requires.1.1)
 
 loop-holds : tie.Need-loop-next-init invariant-loop decreases-loop
 loop-holds c =
     let s = c.before.before in
-    (omega (arith, s.requires.1.0.inside, live-long s.args.t1 (omega (arith, long s))), rw (again s) (begun s))
+    (omega (arith, s.requires.1.0.inside, live-long s.args.board (omega (arith, long s))), rw (again s) (begun s))
 
 returns : tie.Need-returns invariant-loop decreases-loop
 unfolding board_of
 returns c =
     let l = c.before.before in
     let s = l.before.before.before in
-    let done = filling-done (rw (live-none s.args.t1 l.loop-next.next (omega arith), again s) at l.loop-next.invariant.1) in
-    cc (to_z-of_z {w = w64} {z = s.args.t1.row} (search rules), done.0, done.1)
+    let done = filling-done (rw (live-none s.args.board l.loop-next.next (omega arith), again s) at l.loop-next.invariant.1) in
+    cc (to_z-of_z {w = w64} {z = s.args.board.row} (search rules), done.0, done.1)
 
 pub filled_spec : {M : Type 1} → statement M
 filled_spec =

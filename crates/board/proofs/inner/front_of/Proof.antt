@@ -24,20 +24,20 @@ invariant-loop board n runs₀ count₀ grown₀ next₀ runs count grown next =
 abbrev decreases-loop : tie.decreases-loop-next
 decreases-loop board n runs₀ count₀ grown₀ next₀ runs count grown next = n - next
 
-long : (s : tie.Start invariant-loop decreases-loop) → length s.args.t1.runs ≡ 32
+long : (s : tie.Start invariant-loop decreases-loop) → length s.args.board.runs ≡ 32
 long s = search (rules, length-mapped)
 
 -- ---- in a turn: the run that is looked at comes first of those that are left, and is held against the grown one
 
 module _ (c : tie.In-loop-next invariant-loop decreases-loop) where
   abbrev other : Run
-  other = get_or c.before.before.args.t1.runs c.before.loop-next.next no_run
+  other = get_or c.before.before.args.board.runs c.before.loop-next.next no_run
 
   abbrev grown : Run
   grown = c.before.loop-next.grown
 
-  next : let rs = live c.before.before.args.t1 in drop c.before.loop-next.next rs ≡ other ∷ drop (c.before.loop-next.next + 1) rs
-  next = live_more c.before.before.args.t1 c.before.loop-next.next (omega arith) (omega (arith, long c.before.before))
+  next : let rs = live c.before.before.args.board in drop c.before.loop-next.next rs ≡ other ∷ drop (c.before.loop-next.next + 1) rs
+  next = live_more c.before.before.args.board c.before.loop-next.next (omega arith) (omega (arith, long c.before.before))
 
 after : (c : tie.After-ends_before invariant-loop decreases-loop) → let t = c.before.before.before in lt_z (grown t).end (other t).start ≡ c.ends_before.result
 after c = let t = c.before.before.before in rw (← to_z-of_z {w = w64} {z = (other t).start} (search rules)) (sym c.ends_before.ensures)
@@ -46,14 +46,14 @@ before : (c : tie.After-ends_before-in-loop-next invariant-loop decreases-loop) 
 before c = let t = c.before.before.before.before.before.before in rw (← to_z-of_z {w = w64} {z = (grown t).start} (search rules)) (sym c.ends_before-in-loop-next.ensures)
 
 -- the front where the loop is left
-done : (s : tie.At-loop-next invariant-loop decreases-loop) → let b = s.before.args.t1 in let rest = drop s.loop-next.next (live b) in
+done : (s : tie.At-loop-next invariant-loop decreases-loop) → let b = s.before.args.board in let rest = drop s.loop-next.next (live b) in
     with_run s.loop-next.grown rest ≡ s.loop-next.grown ∷ rest
     → Gathered (record { runs = s.loop-next.runs; count = s.loop-next.count; run = s.loop-next.grown; next = s.loop-next.next }) (live b) (with_run s.before.args.run (live b))
 done s e =
     record {
       filling = rw e at s.loop-next.invariant.1.1;
       fewer = s.loop-next.invariant.1.0;
-      inside = omega (arith, live-long s.before.args.t1 (omega (arith, long s.before)));
+      inside = omega (arith, live-long s.before.args.board (omega (arith, long s.before)));
     }
 
 returns : tie.Need-returns-then-ends_before invariant-loop decreases-loop
@@ -77,7 +77,7 @@ loop-again-2 c =
     (omega arith, (omega arith, rw c.joined-grown.ensures (rw one at t.before.loop-next.invariant.1.1)))
 
 returns-2 : tie.Need-returns invariant-loop decreases-loop
-returns-2 c = done c.before (with_none c.before.loop-next.grown (live-none c.before.before.args.t1 c.before.loop-next.next (omega arith)))
+returns-2 c = done c.before (with_none c.before.loop-next.grown (live-none c.before.before.args.board c.before.loop-next.next (omega arith)))
 
 pub front_of_spec : {M : Type 1} → statement M
 front_of_spec =

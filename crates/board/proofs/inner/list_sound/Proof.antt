@@ -17,7 +17,7 @@ module _ (s : tie.Start) where
   array = search (rules, length-mapped)
 
   long : length (live s.args.board) ≡ s.args.board.count
-  long = live-long s.args.board (omega (arith, array, s.pre.few))
+  long = live-long s.args.board (omega (arith, array, s.requires.few))
 
 returns : tie.Need-returns-then-out-count
 unfolding told told_to

@@ -35,14 +35,14 @@ invariant-loop board n sum₀ i₀ sum i = (i ≤ n) × (Within sum.total (longe
 abbrev decreases-loop : tie.decreases-loop-i
 decreases-loop board n sum₀ i₀ sum i = n - i
 
-array : (s : tie.Start invariant-loop decreases-loop) → length s.args.t1.runs ≡ 32
+array : (s : tie.Start invariant-loop decreases-loop) → length s.args.board.runs ≡ 32
 array s = search (rules, length-mapped)
 
 -- ---- in a turn: the run is the first that is left and lies inside the columns, and the sum is small
 
 module _ (c : tie.In-loop-i invariant-loop decreases-loop) where
   abbrev b : Board
-  b = c.before.before.args.t1
+  b = c.before.before.args.board
 
   abbrev i : ℕ
   i = c.before.loop-i.i
@@ -81,7 +81,7 @@ returns : tie.Need-returns invariant-loop decreases-loop
 unfolding total
 returns c =
     let l = c.before.before in
-    let all = rw (live-none l.before.args.t1 l.loop-i.i (omega arith)) at l.loop-i.invariant.1.1 in
+    let all = rw (live-none l.before.args.board l.loop-i.i (omega arith)) at l.loop-i.invariant.1.1 in
     cc (to_z-of_z {w = w64} {z = l.loop-i.sum.total} (search rules), +ℤ_idr l.loop-i.sum.total)
 
 pub total_of_spec : {M : Type 1} → statement M
@@ -90,7 +90,7 @@ total_of_spec =
     (tie.spec
     invariant-loop
     decreases-loop
-    (λ c. (search rules, (record { bound = search rules }, +ℤ_idl (total (live c.args.t1)))))
+    (λ c. (search rules, (record { bound = search rules }, +ℤ_idl (total (live c.args.board)))))
     (λ c. omega arith)
     (λ c. omega arith)
     (λ c. let t = c.before.before.before in fits_sub (hold (inside t).end_near tt) (hold (inside t).start_near tt) tt)

@@ -20,29 +20,29 @@ decreases-loop out₀ board n i₀ out i = n - i
 
 -- ---- lengths
 
-array : (s : tie.Start invariant-loop decreases-loop) → length s.args.t1.runs ≡ 32
+array : (s : tie.Start invariant-loop decreases-loop) → length s.args.board.runs ≡ 32
 array s = search (rules, length-mapped)
 
 module _ (s : tie.At-loop-i invariant-loop decreases-loop) where
-  long : length (live s.before.args.t1) ≡ s.before.args.t1.count
-  long = live-long s.before.args.t1 (omega (arith, array s.before))
+  long : length (live s.before.args.board) ≡ s.before.args.board.count
+  long = live-long s.before.args.board (omega (arith, array s.before))
 
   kept : length s.loop-i.out ≡ length s.before.args.out.now
   kept =
-      ap length s.loop-i.inv.1
-      ∙ paste-length (flat (live s.before.args.t1)) s.before.args.out.now (2 * s.loop-i.i) (omega (arith, flat-length (live s.before.args.t1), long)) (omega arith)
+      ap length s.loop-i.invariant.1
+      ∙ paste-length (flat (live s.before.args.board)) s.before.args.out.now (2 * s.loop-i.i) (omega (arith, flat-length (live s.before.args.board), long)) (omega arith)
 
 loop-again : tie.Need-loop-i-preserved invariant-loop decreases-loop
 loop-again c =
     let s = c.before.before.before.before.before in
-    let b = s.before.args.t1 in
+    let b = s.before.args.board in
     let next = live_more b s.loop-i.i (omega arith) (omega (arith, array s.before)) in
     (omega arith, c.before.put_run.ensures ∙ rw s.loop-i.invariant.1 (flat-turn (live b) _ s.before.args.out.now s.loop-i.i _ (omega arith) next))
 
 returns : tie.Need-returns invariant-loop decreases-loop
 unfolding over
 returns c =
-    let rs = live c.before.before.args.t1 in
+    let rs = live c.before.before.args.board in
     let all : 2 * c.before.loop-i.i ≡ length (flat rs) = omega (arith, flat-length rs, long c.before) in
     c.before.loop-i.invariant.1 ∙ rw (← flat-length rs) (paste-done (flat rs) c.before.before.args.out.now (2 * c.before.loop-i.i) all)
 

@@ -147,7 +147,7 @@ module _ {M : Type 1} {𝓤 : Ura M} (𝓛 : Logic 𝓤) (at_mem : Memory → SP
   abbrev to-run : ℕ → (RunAt 𝓛 at_mem run).Ghost
   to-run i = ((tt, tt, tt, (d, (i, tt)), (held d ∷ [], (vint w64 i ∷ [], tt))), tt)
 
-  goes-run : (i : ℕ) → i < board_runs → i < 2 ^ 64 → ent 𝓤 (sem 𝓛 ftrue) ((RunAt 𝓛 at_mem run).pre (to-run i))
+  goes-run : (i : ℕ) → i < board_runs → i < 2 ^ 64 → ent 𝓤 (sem 𝓛 ftrue) ((RunAt 𝓛 at_mem run).requires (to-run i))
   goes-run i h f =
       qed 𝓛 (‵ ftrue ∷ []) ∵ says ! h $ frame ! $
       nothing ! $ owned ! usize (Is usize) (uint_Makes 𝓛 w64) i _ (refl, f) $ fjoin ! $ owned ! B.the_row (Is B.the_row) (LL.makes B.the_type B'.the_plain 𝓛) d _ d-is $ fjoin ! $ done !
@@ -188,7 +188,7 @@ module _ {M : Type 1} {𝓤 : Ura M} (𝓛 : Logic 𝓤) (at_mem : Memory → SP
           assigns ! (bin ! (load ! (from ! (stop !)) (look ! 1 refl)) (load ! (from ! (stop !)) (look ! 8 refl)) tt) (from ! (stop !)) (init ! 3 refl (tt, tt)) $
           rewrite ! 3 (λ (t : Bool). ‵ (fat full_share ty_bool l₆ 0 (vbool t))) (lt-ltb i n small) refl $
           stays ! (load ! (from ! (stop !)) (look ! 3 refl)) $
-          nothing ! $ use1 𝓛 (raw ((RunAt 𝓛 at_mem run).pre (to-run i))) (goes-run i (omega arith) (omega arith)) $
+          nothing ! $ use1 𝓛 (raw ((RunAt 𝓛 at_mem run).requires (to-run i))) (goes-run i (omega arith) (omega arith)) $
           calls_at ! fm (RunAt 𝓛 at_mem run) known (to-run i) (and_then ! (load ! (from ! (stop !)) (look ! 8 refl)) (and_then ! (load ! (from ! (stop !)) (look ! 2 refl)) (no_more !))) (λ v.
           use1 𝓛 (later (some (λ (r : Run). (‵ ftrue ⊛ ‵ (R.own_val r (v ∷ []))) ⊛ raw (ensured 𝓛 run_at.ended (run_at.clauses 𝓛 at_mem run) tt (d, (i, tt)) tt r)))) (id⊢ 𝓤 _) $ await ! tt $ pick ! (λ r.
           split ! $ move ! (1 ∷ []) $ use1 𝓛 (raw (fact 𝓤 (r ≡ get_or d.runs i no_run))) (got_of 𝓛 at_mem run d i r) $ heard ! (r ≡ get_or d.runs i no_run) (λ e. split ! $ drops ! $

@@ -37,7 +37,7 @@ returns c =
     let a = t1.before.before.args in
     let runs = length (live a.board) in
     let records = le-leb runs a.room (omega (arith, long t1, t2.if-board-room.true)) in
-    rw (← t1.before.is_sound.ensures, t1.if-is_sound.true, records, and-true (leb (2 * runs) (length a.out-1.now))) c.before.list_sound.ensures
+    rw (← t1.before.is_sound.ensures, t1.if-is_sound.true, records, and-true (leb (2 * runs) (length a.out.now))) c.before.list_sound.ensures
 
 returns-2 : tie.Need-returns-then-is_sound
 unfolding both_listed numbers_to
@@ -46,7 +46,7 @@ returns-2 c =
     let a = t1.before.before.args in
     let runs = length (live a.board) in
     let few = lt-leb runs a.room (omega (arith, long t1, c.before.if-board-room.false)) in
-    rw (← t1.before.is_sound.ensures, t1.if-is_sound.true, few, and-false (leb (2 * runs) (length a.out-1.now))) (search rules)
+    rw (← t1.before.is_sound.ensures, t1.if-is_sound.true, few, and-false (leb (2 * runs) (length a.out.now))) (search rules)
 
 returns-3 : tie.Need-returns
 unfolding both_listed numbers_to

@@ -21,8 +21,8 @@ plus-requires c κs =
 error : (c : tie.After-turn-turned) → Hold (of_z w64 c.turn-turned.result.error) (turned c.before.args.p c.before.args.at).error (step_limit + step_limit)
 error c = let q = c.before.requires in hold-as (ap (λ (b : Bresenham). b.error) c.turn-turned.ensures) (turned-placed q.0 q.1).1 tt
 
-add-t7 : tie.Need-overflow-add-t7
-add-t7 c = let t = c.before.before.before.before.before.before in fits-add (error t) (hold t.before.requires.0.gain_small tt) tt
+add-t7 : tie.Need-overflow_add-state
+add-t7 c = let t = c.before.before.before.before.before.before.before in fits-add (error t) (hold t.before.requires.0.gain_small tt) tt
 
 returns : tie.Need-returns
 unfolding next_of handed

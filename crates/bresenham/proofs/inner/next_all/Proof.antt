@@ -5,10 +5,10 @@ use Rattle.bresenham.specs.Walk.{next_all}
 use Rattle.bresenham.proofs.inner.next_all.Statement.{statement}
 use Rattle.bresenham.proofs.inner.next_all.Tie as tie
 
-sub-t8 : tie.Need-overflow-sub-t8
+sub-t8 : tie.Need-overflow_sub-turned
 sub-t8 c = let q = c.before.before.before.before.before.requires in fits_sub (hold q.1.error_small tt) (hold q.0.loss_small tt) tt
 
-add-t8 : tie.Need-overflow-add-t8
+add-t8 : tie.Need-overflow_add-gone
 add-t8 c = let q = c.before.before.before.before.before.before.before.before.requires in fits-add (hold q.1.error_small tt) (hold q.0.gain_small tt) tt
 
 returns : tie.Need-returns

@@ -4,7 +4,7 @@ use Rattle.bresenham.specs.Walk.{turned}
 use Rattle.bresenham.proofs.inner.turn.Statement.{statement}
 use Rattle.bresenham.proofs.inner.turn.Tie as tie
 
-sub-t7 : tie.Need-overflow-sub-t7
+sub-t7 : tie.Need-overflow_sub-result
 sub-t7 c = let q = c.before.before.before.before.before.before.requires in fits_sub (hold q.1.error_small tt) (hold q.0.loss_small tt) tt
 
 returns : tie.Need-returns-then-threshold-error

@@ -36,13 +36,13 @@ module _ (s : tie.Start) where
   tall = s.args.tip.y -ℤ s.args.mid.y
 
   dx : Hold (of_z w64 (to_z w64 (of_z w64 s.args.tip.x) -ℤ to_z w64 (of_z w64 s.args.mid.x))) wide (2 ^ 48 + 2 ^ 14)
-  dx = hold-sub (x-held s.pre.1.0 tt) (x-held s.pre.0 tt) tt
+  dx = hold-sub (x-held s.requires.1.0 tt) (x-held s.requires.0 tt) tt
 
   dy : Hold (of_z w64 (to_z w64 (of_z w64 s.args.tip.y) -ℤ to_z w64 (of_z w64 s.args.mid.y))) tall (2 ^ 48 + 2 ^ 14)
-  dy = hold-sub (y-held s.pre.1.0 tt) (y-held s.pre.0 tt) tt
+  dy = hold-sub (y-held s.requires.1.0 tt) (y-held s.requires.0 tt) tt
 
   most : Hold (of_z w64 (pos 2 *ℤ to_z w64 (of_z w64 s.args.width))) (pos 2 *ℤ s.args.width) 128
-  most = hold-mul (literal 2 tt) (thin-held s.pre.1.1) tt
+  most = hold-mul (literal 2 tt) (thin-held s.requires.1.1) tt
 
 abbrev start : tie.After-struct_told-4-1 → tie.Start
 start c = c.before.before.before.before.before.before.before.before
@@ -67,7 +67,7 @@ magnitude-requires c κs = let d = dx (start c) in rw d.is (within_more d.small 
 returns : tie.Need-returns-then-most-magnitude
 returns c =
     let s = start c.before.before in
-    sym (too_wide s.args.mid s.args.tip s.args.width s.pre.1.1 (lt-hold (most s) (width-far c.before) c.if-most-magnitude.true))
+    sym (too_wide s.args.mid s.args.tip s.args.width s.requires.1.1 (lt-hold (most s) (width-far c.before) c.if-most-magnitude.true))
 
 magnitude-requires-2 : tie.Need-magnitude-requires-2
 magnitude-requires-2 c κs = let d = dy (start c.before.before) in rw d.is (within_more d.small (lit≤ tt))
@@ -80,7 +80,7 @@ height-far c =
 returns-2 : tie.Need-returns-then-most-magnitude-2
 returns-2 c =
     let s = start c.before.before.before.before in
-    sym (too-tall s.args.mid s.args.tip s.args.width s.pre.1.1 (lt-hold (most s) (height-far c.before) c.if-most-magnitude-2.true))
+    sym (too-tall s.args.mid s.args.tip s.args.width s.requires.1.1 (lt-hold (most s) (height-far c.before) c.if-most-magnitude-2.true))
 
 -- past both tests
 module _ (c : tie.Else-most-magnitude-2) where
@@ -88,10 +88,10 @@ module _ (c : tie.Else-most-magnitude-2) where
   began = start c.before.before.before.before
 
   short-x : Hold (of_z w64 (to_z w64 (of_z w64 began.args.tip.x) -ℤ to_z w64 (of_z w64 began.args.mid.x))) (wide began) 128
-  short-x = record { is = (dx began).is; small = passed began.pre.1.1 (lt-hold (most began) (width-far c.before.before.before) c.before.before.if-most-magnitude.false) }
+  short-x = record { is = (dx began).is; small = passed began.requires.1.1 (lt-hold (most began) (width-far c.before.before.before) c.before.before.if-most-magnitude.false) }
 
   short-y : Hold (of_z w64 (to_z w64 (of_z w64 began.args.tip.y) -ℤ to_z w64 (of_z w64 began.args.mid.y))) (tall began) 128
-  short-y = record { is = (dy began).is; small = passed began.pre.1.1 (lt-hold (most began) (height-far c.before) c.if-most-magnitude-2.false) }
+  short-y = record { is = (dy began).is; small = passed began.requires.1.1 (lt-hold (most began) (height-far c.before) c.if-most-magnitude-2.false) }
 
 mul-result : tie.Need-overflow_mul-result
 mul-result c = fits-mul (short-x c) (short-x c) tt

@@ -12,11 +12,11 @@ far c = to_z-of_z {w = w64} {z = c.distance-far.result} (search rules) ∙ c.dis
 
 returns : tie.Need-returns-in-Left
 unfolding is_on_side
-returns c = rw (far c.before.before, c.enum_told-1.given.1)
+returns c = rw (far c.before, c.in-Left.is)
 
 returns-2 : tie.Need-returns-in-Right
 unfolding is_on_side
-returns-2 c = rw (far c.before.before, c.enum_told-in-Right-1.given.1)
+returns-2 c = rw (far c.before, c.in-Right.is)
 
 pub check_side_spec : {M : Type 1} → statement M
 check_side_spec = tie.close (tie.spec (λ c κs. search rules) (λ c. search rules) (λ c. search rules) returns returns-2)

@@ -72,7 +72,7 @@ join-on-requires : tie.Need-join_on-join-requires invariant-loop decreases-loop
 join-on-requires c κs =
     let s = (counted c).before in
     let i = inside (counted c) c.loop-i-test.true in
-    (record { near = s.pre.0; thin = thin-back s.pre.1.0; several = i.0 }, i.1)
+    (record { near = s.requires.0; thin = thin-back s.requires.1.0; several = i.0 }, i.1)
 
 near : (c : tie.After-near_with-near invariant-loop decreases-loop) → let l = c.before.before.before in
     c.near_with-near.result ≡ passed_with l.before.loop-i.near l.before.loop-i.i (test (counted l) l.before.loop-i.i)

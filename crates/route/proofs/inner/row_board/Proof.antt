@@ -40,7 +40,7 @@ decreases-loop row route count closed n board₀ k₀ board k = n - k
 -- the loop's start, and the spans by their place, with the row as the calls have it
 module _ (c : tie.After-segments_of-n invariant-loop decreases-loop) where
   abbrev route : Joins
-  route = c.before.args.t1
+  route = c.before.args.route
 
   abbrev lit-at : ℕ → Span
   lit-at = span_in route (to_z w64 (of_z w64 c.before.args.row))
@@ -70,12 +70,12 @@ module _ (c : tie.In-loop-k invariant-loop decreases-loop) where
   inner = omega (arith, c.loop-k-test.true, c.before.loop-k.invariant.1.0)
 
   inside : (place < 256) × (end_place (route began).closed (route began).count place < 256)
-  inside = ends-in-array began.before.pre inner
+  inside = ends-in-array began.before.requires inner
 
   -- the spans that are left begin with that of the place
   left : let n = began.segments-of.result in
-      offer_all c.before.loop.board (lit-at began place ∷ list_from (lit-at began) (place + 1) (n - (place + 1))) ≡ board_on (route began) (to_z w64 (of_z w64 began.before.args.row))
-  left = ap (offer_all c.before.loop.board) (sym (list-next (lit-at began) began.segments-of.result place c.loop-test.true)) ∙ c.before.loop.invariant.1.1.1
+      offer_all c.before.loop-k.board (lit-at began place ∷ list_from (lit-at began) (place + 1) (n - (place + 1))) ≡ board_on (route began) (to_z w64 (of_z w64 began.before.args.row))
+  left = ap (offer_all c.before.loop-k.board) (sym (list-next (lit-at began) began.segments-of.result place c.loop-test.true)) ∙ c.before.loop-k.invariant.1.1.1
 
 end-place-requires : tie.Need-end_place-next-requires invariant-loop decreases-loop
 end-place-requires c κs = (place_inside (route (began c)).closed (inner c)).0
@@ -124,10 +124,10 @@ module _ (c : tie.Joined-is_empty invariant-loop decreases-loop) where
     on : offer_all b rest ≡ board_on (route (began turn)) (to_z w64 (of_z w64 (began turn).before.args.row))
 
   kept : is_empty (lit-at (began turn) (place turn)) ≡ true → Goes held
-  kept e = record { few = turn.before.loop-k.inv.1.1.0; on = sym (offer-empty held _ rest e) ∙ left turn }
+  kept e = record { few = turn.before.loop-k.invariant.1.1.0; on = sym (offer-empty held _ rest e) ∙ left turn }
 
   taken : (added held (lit-at (began turn) (place turn))).refusal ≡ 0 → Goes (added held (lit-at (began turn) (place turn))).board-1
-  taken e = record { few = added-few held _ turn.before.loop-k.inv.1.1.0; on = sym (offer-on held _ rest e) ∙ left turn }
+  taken e = record { few = added-few held _ turn.before.loop-k.invariant.1.1.0; on = sym (offer-on held _ rest e) ∙ left turn }
 
   empty : c.before.is_empty.result ≡ is_empty (lit-at (began turn) (place turn))
   empty = c.before.is_empty.ensures ∙ ap is_empty (lit c.before.before)

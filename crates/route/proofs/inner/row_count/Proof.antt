@@ -16,10 +16,10 @@ module _ (c : tie.After-struct_told-1) where
   start = c.before.before.before
 
   lower : Hold (of_z w64 start.args.rows.last) start.args.rows.last line_limit
-  lower = hold start.pre.last_near tt
+  lower = hold start.requires.last_near tt
 
   upper : Hold (of_z w64 start.args.rows.first) start.args.rows.first line_limit
-  upper = hold start.pre.first_near tt
+  upper = hold start.requires.first_near tt
 
   tall : let rows = start.args.rows in
       Hold (of_z w64 (to_z w64 (of_z w64 (to_z w64 (of_z w64 rows.last) -ℤ to_z w64 (of_z w64 rows.first))) +ℤ pos 1)) ((rows.last -ℤ rows.first) +ℤ pos 1) (line_limit + line_limit + 1)

@@ -30,7 +30,7 @@ returns : tie.Need-returns-then-answer-ne0
 returns c =
     let b = c.before.before.before in
     let a = b.before.before.before.args in
-    refused-on a.limit a.route a.row a.out-1.now c.refused.ensures (number b) c.before.if-answer-ne0.true
+    refused-on a.limit a.route a.row a.out.now c.refused.ensures (number b) c.before.if-answer-ne0.true
 
 list-sound-requires : tie.Need-list_sound-listed-requires
 list-sound-requires c κs =
@@ -44,14 +44,14 @@ returns-2 c =
     let l = c.before.before in
     let b = l.before.before.before.before in
     let a = b.before.before.before.args in
-    listed-on a.limit a.route a.row a.out-1.now (number b ∙ l.before.before.if-answer-ne0.false) (ap (λ d. d.board) (drawn b)) l.list_sound-listed.ensures.0 (to_z-of_z {w = w64} {z = l.list_sound-listed.result.total} (search rules)) l.list_sound-listed.ensures.1
+    listed-on a.limit a.route a.row a.out.now (number b ∙ l.before.before.if-answer-ne0.false) (ap (λ d. d.board) (drawn b)) l.list_sound-listed.ensures.0 (to_z-of_z {w = w64} {z = l.list_sound-listed.result.total} (search rules)) l.list_sound-listed.ensures.1
 
 returns-3 : tie.Need-returns
 unfolding refusal_on
 returns-3 c =
     let w = c.before.before in
     let a = w.before.args in
-    refused-on a.limit a.route a.row a.out-1.now c.refused-2.ensures (rw (← inside w, c.before.if-within.false)) (λ e. omega (arith, e))
+    refused-on a.limit a.route a.row a.out.now c.refused-2.ensures (rw (← inside w, c.before.if-within.false)) (λ e. omega (arith, e))
 
 pub row_of_spec : {M : Type 1} → statement M
 row_of_spec =

@@ -26,14 +26,14 @@ loop-holds : tie.Need-loop-k-init invariant-loop decreases-loop
 unfolding rows_in
 loop-holds c =
     let n = c.segments_of-segments.ensures in
-    let all : c.segments_of-segments.result - 0 ≡ segments_in c.before.args.t1 = omega (arith, n) in
+    let all : c.segments_of-segments.result - 0 ≡ segments_in c.before.args.route = omega (arith, n) in
     (omega arith, (n, rw all))
 
 -- ---- in a turn of the loop
 
 module _ (c : tie.In-loop-k invariant-loop decreases-loop) where
   abbrev route : Joins
-  route = c.before.before.before.args.t1
+  route = c.before.before.before.args.route
 
   abbrev place : ℕ
   place = c.before.loop-k.k
@@ -45,10 +45,10 @@ module _ (c : tie.In-loop-k invariant-loop decreases-loop) where
   inside = ends-in-array c.before.before.before.requires inner
 
   -- the rows that are left begin with that of the place
-  left : let n = c.before.before.segments-of.result in
-      with_all (with_rows c.before.loop.rows (drawn_in route place)) (list_from (drawn_in route) (place + 1) (n - (place + 1))) ≡ rows_in route
+  left : let n = c.before.before.segments_of-segments.result in
+      with_all (with_rows c.before.loop-k.rows (drawn_in route place)) (list_from (drawn_in route) (place + 1) (n - (place + 1))) ≡ rows_in route
   unfolding with_all
-  left = ap (with_all c.before.loop.rows) (sym (list-next (drawn_in route) c.before.before.segments-of.result place c.loop-test.true)) ∙ c.before.loop.invariant.1.1
+  left = ap (with_all c.before.loop-k.rows) (sym (list-next (drawn_in route) c.before.before.segments_of-segments.result place c.loop-test.true)) ∙ c.before.loop-k.invariant.1.1
 
 drawn-rows-requires : tie.Need-drawn_rows-requires invariant-loop decreases-loop
 drawn-rows-requires c κs =
@@ -70,7 +70,7 @@ returns : tie.Need-returns invariant-loop decreases-loop
 unfolding with_all
 returns c =
     let l = c.before in
-    sym (ap (with_all l.loop-k.rows) (list-end (drawn_in l.before.before.args.t1) l.before.segments_of-segments.result l.loop-k.k (omega arith))) ∙ l.loop-k.invariant.1.1
+    sym (ap (with_all l.loop-k.rows) (list-end (drawn_in l.before.before.args.route) l.before.segments_of-segments.result l.loop-k.k (omega arith))) ∙ l.loop-k.invariant.1.1
 
 pub rows_of_spec : {M : Type 1} → statement M
 rows_of_spec =

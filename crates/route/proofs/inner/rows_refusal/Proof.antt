@@ -84,7 +84,7 @@ rows_refusal_spec =
     (λ c κs. search rules)
     loop-holds
     (λ c κs. ((start c).requires.1, inner c))
-    (λ c κs. (start c.before).pre.0)
+    (λ c κs. (start c.before).requires.0)
     returns
     (λ c. let l = c.before.before.before.before in omega (arith, inner l, count_small (start l).requires.1))
     (λ c. omega arith)

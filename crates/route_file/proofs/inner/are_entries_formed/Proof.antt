@@ -4,7 +4,6 @@ use mathlib.Core.Path.{◌≡◌, refl, sym, ap, ◌∙◌}
 use Prim.Native.Nat.{◌-◌}
 use native.Mathlib.Numerals.{unary_clauses}
 use native.Mathlib.Omega.{arith}
-use borrow.Author.Tests.{not-true, not-false}
 use lib.ListN.{length}
 use Rattle.route_file.specs.Form.{entry_at, is_entry_formed, are_formed}
 use Rattle.route_file.proofs.Reading.{entry-on, entry-stop, entry-end}
@@ -38,7 +37,7 @@ returns : tie.Need-returns-then-not-is_entry_formed invariant-loop decreases-loo
 returns c =
     let l = c.before.before.before.before in
     let a = l.before.before.args in
-    sym (entry-stop a.end a.file.now l.loop-k.k a.n c.before.before.before.loop-k-test.true (sym (told c.before) ∙ not-true _ c.if-not-is_entry_formed.true)) ∙ l.loop-k.invariant
+    sym (entry-stop a.end a.file.now l.loop-k.k a.n c.before.before.before.loop-k-test.true (sym (told c.before) ∙ c.if-not-is_entry_formed.true)) ∙ l.loop-k.invariant
 
 add-k : tie.Need-overflow_add-k invariant-loop decreases-loop
 add-k c = omega arith
@@ -50,7 +49,7 @@ loop-again : tie.Need-loop-k-preserved invariant-loop decreases-loop
 loop-again c =
     let l = c.before.before.before.before in
     let a = l.before.before.args in
-    sym (entry-on a.end a.file.now l.loop-k.k a.n c.before.before.before.loop-k-test.true (sym (told c.before) ∙ not-false _ c.if-not-is_entry_formed.false)) ∙ l.loop-k.invariant
+    sym (entry-on a.end a.file.now l.loop-k.k a.n c.before.before.before.loop-k-test.true (sym (told c.before) ∙ c.if-not-is_entry_formed.false)) ∙ l.loop-k.invariant
 
 returns-2 : tie.Need-returns invariant-loop decreases-loop
 returns-2 c = let a = c.before.before.before.args in sym (entry-end a.end a.file.now c.before.loop-k.k a.n c.loop-k-test.false) ∙ c.before.loop-k.invariant

@@ -28,15 +28,15 @@ module _ (c : tie.After-points-count) where
 
   -- as many numbers as the route has are written
   count : c.points-count.result.count ≡ length own
-  count = ap (λ r. r.count) c.points-count.ensures.0 ∙ handed-count start.args.k start.pre.0 bytes (replicate 32768 (pos 0)) (length-replicate 32768 (pos 0))
+  count = ap (λ r. r.count) c.points-count.ensures.0 ∙ handed-count start.args.k start.requires.0 bytes (replicate 32768 (pos 0)) (length-replicate 32768 (pos 0))
 
   -- and they are its own
   numbers : take c.points-count.result.count c.points-count.new.1.1.0 ≡ own
   numbers =
-      ap (λ n. take n c.points-count.new.1.1.0) count ∙ ap (take (length own)) c.points-count.ensures.1 ∙ handed start.args.k start.pre.0 bytes (replicate 32768 (pos 0)) (length-replicate 32768 (pos 0))
+      ap (λ n. take n c.points-count.new.1.1.0) count ∙ ap (take (length own)) c.points-count.ensures.1 ∙ handed start.args.k start.requires.0 bytes (replicate 32768 (pos 0)) (length-replicate 32768 (pos 0))
 
   room : c.points-count.result.count < 32769
-  room = omega (arith, count, enough start.args.file.now start.args.k start.pre.0 bytes)
+  room = omega (arith, count, enough start.args.file.now start.args.k start.requires.0 bytes)
 
 array-share-prefix-room : tie.Need-slice_bounds-room-end
 array-share-prefix-room c = let p = c.before in omega (arith, room p, p.points-count.auto.1.1.0, length-replicate 32768 (pos 0))
@@ -61,5 +61,5 @@ print_entry_spec =
     (λ c κs. search rules)
     array-share-prefix-room
     (λ c. let p = c.before.before in count p ∙ sym (ap length (numbers p)))
-    (λ c κs. (start c.before.before).pre.1)
+    (λ c κs. (start c.before.before).requires.1)
     returns)

@@ -43,14 +43,14 @@ module _ (c : tie.In-loop-k invariant-loop decreases-loop) where
   counted = c.before.before.before.before.before.before.before
 
   few : c.before.loop-k.k < 16
-  few = omega (arith, c.loop-k-test.true, c.before.loop-k.invariant.1.0, counted.before.before.pre.0.few)
+  few = omega (arith, c.loop-k-test.true, c.before.loop-k.invariant.1.0, counted.before.before.requires.0.few)
 
   sum-held : Hold (of_z w64 c.before.loop-k.sum.total) c.before.loop-k.sum.total (most * most * 16)
   sum-held = hold (within_more c.before.loop-k.invariant.1.1.0 (omega (arith, few))) tt
 
 -- the pixels of the route
 pixels-held : (c : tie.After-print_entry-pixels invariant-loop decreases-loop) → let l = c.before in Hold (of_z w64 c.print_entry-pixels.result) (pixels (counted l) l.before.loop-k.k) (most * most)
-pixels-held c = let s = (counted c.before).before.before in hold-as c.print_entry-pixels.ensures (entry-pixels s.pre.1 _ _) tt
+pixels-held c = let s = (counted c.before).before.before in hold-as c.print_entry-pixels.ensures (entry-pixels s.requires.1 _ _) tt
 
 loop-again : tie.Need-loop-k-preserved invariant-loop decreases-loop
 loop-again c =

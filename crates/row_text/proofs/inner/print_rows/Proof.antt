@@ -55,7 +55,7 @@ module _ (c : tie.In-loop-i invariant-loop decreases-loop) where
   inner = omega (arith, c.loop-i-test.true, c.before.loop-i.invariant.1.0)
 
   few : place < most
-  few = omega (arith, inner, count_small start.pre.1.0)
+  few = omega (arith, inner, count_small start.requires.1.0)
 
   sum-held : Hold (of_z w64 c.before.loop-i.sum.total) c.before.loop-i.sum.total (most * most)
   sum-held = hold (within_more c.before.loop-i.invariant.1.1.0.0 (omega (arith, few))) tt
@@ -83,7 +83,7 @@ print-row-requires : tie.Need-print_row-lit-requires invariant-loop decreases-lo
 print-row-requires c κs =
     let l = c.before in
     let s = start l in
-    (s.pre.0, (rw (at c) (row_within s.pre.1.0 (inner l)), ap (λ y. (board_on s.args.route y).refusal) (at c) ∙ (none-refused l).0))
+    (s.requires.0, (rw (at c) (row_within s.requires.1.0 (inner l)), ap (λ y. (board_on s.args.route y).refusal) (at c) ∙ (none-refused l).0))
 
 loop-again : tie.Need-loop-i-preserved invariant-loop decreases-loop
 loop-again c =

@@ -35,7 +35,7 @@ rows_are : (c : tie.After-size-3) → c.size-3.result ≡ rows_to (start c.befor
 rows_are c = cc (hold-sub (row c.before) (first c.before) tt).is
 
 ends-at-requires : tie.Need-ends_at-requires
-ends-at-requires c κs = let s = start c.before in sizes s.args.line s.args.row s.pre.1 s.pre.0 (wide_is c) (tall-is c) (rows_are c)
+ends-at-requires c κs = let s = start c.before in sizes s.args.line s.args.row s.requires.1 s.requires.0 (wide_is c) (tall-is c) (rows_are c)
 
 returns : tie.Need-returns
 unfolding ends_on

@@ -53,7 +53,7 @@ unfolding next_merged
 left l =
     let a = (begin l).args.walk in
     l.loop-place.invariant.1
-    ∙ ap₂ (λ w row. merged_next a.place w a.span-other (spans_from (list l) w row a.place)) (width_is l) (to_z-of_z {w = w64} {z = a.span-other.row} (search rules))
+    ∙ ap₂ (λ w row. merged_next a.place w a.span (spans_from (list l) w row a.place)) (width_is l) (to_z-of_z {w = w64} {z = a.span.row} (search rules))
 
 -- the segment and the span at the place, and whether it is gathered
 inside : (c : tie.In-loop-place invariant-loop decreases-loop) → c.before.loop-place.place < open_count (list c.before)
@@ -81,7 +81,7 @@ loop-holds c = (c.segment_count-count.ensures, refl)
 segment-of-requires : tie.Need-segment_of-segment-requires invariant-loop decreases-loop
 segment-of-requires c κs =
     let s = begin c.before in
-    (record { near = s.pre.0; thin = thin-back s.pre.1.0; several = several c }, inside c)
+    (record { near = s.requires.0; thin = thin-back s.requires.1.0; several = several c }, inside c)
 
 span-requires : tie.Need-span-other-requires invariant-loop decreases-loop
 span-requires c κs = near c

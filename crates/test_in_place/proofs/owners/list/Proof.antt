@@ -178,7 +178,7 @@ module _ {M : Type 1} {𝓤 : Ura M} (𝓛 : Logic 𝓤) (at_mem : Memory → SP
     abbrev to-list : (ListRecords 𝓛 at_mem run).Ghost
     to-list = (((κ, (κ', tt)), (full_share, (full_share, tt)), tt, (d, (x, (y, tt))), (held d ∷ [], (s ∷ [], (s' ∷ [], tt)))), tt)
 
-    goes-list : ent 𝓤 (sep 𝓤 (sep 𝓤 (A.lft κ full_share) (A.lft κ' full_share)) (sep 𝓤 (sem 𝓛 Numbers) (sem 𝓛 Records))) ((ListRecords 𝓛 at_mem run).pre to-list)
+    goes-list : ent 𝓤 (sep 𝓤 (sep 𝓤 (A.lft κ full_share) (A.lft κ' full_share)) (sep 𝓤 (sem 𝓛 Numbers) (sem 𝓛 Records))) ((ListRecords 𝓛 at_mem run).requires to-list)
     goes-list =
         qed 𝓛 ((‵ (flft κ full_share) ⊛ ‵ (flft κ' full_share)) ∷ (‵ Numbers ⊛ ‵ Records) ∷ []) ∵ move ! (1 ∷ []) $ split ! $ nothing ! $ move ! (2 ∷ 0 ∷ []) $ fjoin ! $ move ! (1 ∷ 0 ∷ []) $ fjoin ! $
         owned ! B.the_row (Is B.the_row) (LL.makes B.the_type B'.the_plain 𝓛) d _ d-is $ fjoin ! $
@@ -212,7 +212,7 @@ module _ {M : Type 1} {𝓤 : Ura M} (𝓛 : Logic 𝓤) (at_mem : Memory → SP
         use1 𝓛 (later (some (λ (γ' : GName). ‵ ((MutSlice (named 1) (α' ∷ []) R).own_val (record { ref_ptr = (l₅, 0); ghost_name = γ'; now = rs }) (slice_val (l₅, 0) (length rs) ∷ [])) ⊛ ‵ (flent (α' ∷ []) (Held R (length rs) l₅ 0 γ'))))) (lends_slice 𝓛 R (named 1) (α' ∷ []) rs l₅ 0 rm') $
         await ! tt $ pick ! (λ γ'. split ! $
         -- [what the records own; their loan; its token; what the numbers own; their loan; its token; _12; …]
-        move ! (3 ∷ 0 ∷ []) $ join ! $ move ! (4 ∷ 2 ∷ []) $ join ! $ use2 𝓛 (raw ((ListRecords 𝓛 at_mem run).pre (to-list l₄ l₅ (α ∷ []) (α' ∷ []) γ γ'))) (goes-list l₄ l₅ (α ∷ []) (α' ∷ []) γ γ') $
+        move ! (3 ∷ 0 ∷ []) $ join ! $ move ! (4 ∷ 2 ∷ []) $ join ! $ use2 𝓛 (raw ((ListRecords 𝓛 at_mem run).requires (to-list l₄ l₅ (α ∷ []) (α' ∷ []) γ γ'))) (goes-list l₄ l₅ (α ∷ []) (α' ∷ []) γ γ') $
         calls_at ! fm (ListRecords 𝓛 at_mem run) known (to-list l₄ l₅ (α ∷ []) (α' ∷ []) γ γ') (and_then ! (load ! (from ! (stop !)) (look ! 23 refl)) (and_then ! (load ! (from ! (stop !)) (look ! 11 refl)) (and_then ! (load ! (from ! (stop !)) (look ! 7 refl)) (no_more !)))) (λ v.
         use1 𝓛 (later (some (λ (r : Listed). ((‵ (flft (α ∷ []) full_share) ⊛ ‵ (flft (α' ∷ []) full_share) ⊛ ‵ ftrue) ⊛ ‵ ((S.the_row).own_val r (v ∷ []))) ⊛ raw (ensured 𝓛 list-records.ended (list-records.clauses 𝓛 at_mem run) (α ∷ [], (α' ∷ [], tt)) (d, (x l₄ l₅ (α ∷ []) (α' ∷ []) γ γ', (y l₄ l₅ (α ∷ []) (α' ∷ []) γ γ', tt))) tt r)))) (id⊢ 𝓤 _) $ await ! tt $ pick ! (λ r.
         split ! $ move ! (1 ∷ []) $ use1 𝓛 (some (λ (ws : Unit {0} × (List ℤ × (List Run × Unit {0}))). ‵ (lasts list-records.ended (α ∷ [], (α' ∷ [], tt)) (d, (x l₄ l₅ (α ∷ []) (α' ∷ []) γ γ', (y l₄ l₅ (α ∷ []) (α' ∷ []) γ γ', tt))) ws) ⊛ raw (fact 𝓤 (Answered r ws.1.0 ws.1.1.0)))) (id⊢ 𝓤 _) $ pick ! (λ ws.

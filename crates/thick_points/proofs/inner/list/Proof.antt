@@ -25,7 +25,7 @@ returns : tie.Need-returns-then-number-ne0
 returns c =
     let a = c.before.before.before.args in
     let ns = told_numbers a.telling a.line a.width a.offset in
-    refused-first a.limit a.line a.width ns a.out-1.now (length ns) (number c.before) c.if-number-ne0.true
+    refused-first a.limit a.line a.width ns a.out.now (length ns) (number c.before) c.if-number-ne0.true
 
 -- where it is 0, all is within its limits
 accepted : (c : tie.Else-number-ne0) → let a = c.before.before.before.args in Thin a.width × LineNear a.limit a.line
@@ -75,7 +75,7 @@ returns-2 c =
     let e = c.before.before.before.before.before.before in
     let a = e.before.before.before.args in
     let ns = told_numbers a.telling a.line a.width a.offset in
-    refused-short a.limit a.line a.width ns a.out-1.now (length ns) (accepted e).0 (accepted e).1 (rw (counted c.before) at c.if-out-count.true)
+    refused-short a.limit a.line a.width ns a.out.now (length ns) (accepted e).0 (accepted e).1 (rw (counted c.before) at c.if-out-count.true)
 
 put-all-requires : tie.Need-put_all-requires
 put-all-requires c κs =
@@ -90,7 +90,7 @@ returns-3 c =
     let a = i.before.before.before.args in
     let ns = told_numbers a.telling a.line a.width a.offset in
     let n = counted e.before in
-    rw (c.before.put_all_lem.ensures, all m, n) (listed-all a.limit a.line a.width ns a.out-1.now (length ns) (accepted i).0 (accepted i).1 (rw n at e.if-out-count.false))
+    rw (c.before.put_all_lem.ensures, all m, n) (listed-all a.limit a.line a.width ns a.out.now (length ns) (accepted i).0 (accepted i).1 (rw n at e.if-out-count.false))
 
 pub list_spec : {M : Type 1} → statement M
 list_spec =

@@ -12,9 +12,9 @@ returns c =
     let flagged = two.before.before in
     let one = flagged.before.before.before in
     let p = one.before.before.before.before.before.before.args.p in
-    let x = to_z-of_z {w = w64} {z = p.start-1.point.x} (search rules) in
-    let y = to_z-of_z {w = w64} {z = p.start-1.point.y} (search rules) in
-    let e = to_z-of_z {w = w64} {z = p.start-1.error} (search rules) in
+    let x = to_z-of_z {w = w64} {z = p.start.point.x} (search rules) in
+    let y = to_z-of_z {w = w64} {z = p.start.point.y} (search rules) in
+    let e = to_z-of_z {w = w64} {z = p.start.error} (search rules) in
     rw (two.put_pair-2.ensures, one.put_pair.ensures, add-two, x, y, e, to_z-of_z {w = w64} {z = flagged.flag.result} (search rules) ∙ flagged.flag.ensures)
 
 pub put_parallel_spec : {M : Type 1} → statement M

@@ -56,10 +56,10 @@ returns-2 c =
     let end = caps.end_caps-last.result in
     let lines = capped.with_caps-capped.ensures ∙ ap (λ rows. placed rows i (cap_lines end)) capped.before.with_caps.ensures in
     c.with_line-3.ensures
-    ∙ ap (λ rows. set rows (i + j + 1) (coordinates e.left-1)) (c.before.with_line-2.ensures ∙ ap (λ rows. set rows (i + j) (coordinates e.right-1)) lines)
-    ∙ placed-all 6 (cap_lines start) (cap_lines end) e.right-1 e.left-1 first.cap_count-after_start.ensures counted.cap_count.ensures (omega (arith, caps-most start, caps-most end))
-    ∙ ap (λ k. rows_of 6 (cap_lines k ++ (cap_lines end ++ (e.right-1 ∷ e.left-1 ∷ [])))) caps.before.start_caps-first.ensures
-    ∙ ap (λ k. rows_of 6 (cap_lines (start_caps_of s.start) ++ (cap_lines k ++ (e.right-1 ∷ e.left-1 ∷ [])))) caps.end_caps-last.ensures
+    ∙ ap (λ rows. set rows (i + j + 1) (coordinates e.left)) (c.before.with_line-2.ensures ∙ ap (λ rows. set rows (i + j) (coordinates e.right)) lines)
+    ∙ placed-all 6 (cap_lines start) (cap_lines end) e.right e.left first.cap_count-after_start.ensures counted.cap_count.ensures (omega (arith, caps-most start, caps-most end))
+    ∙ ap (λ k. rows_of 6 (cap_lines k ++ (cap_lines end ++ (e.right ∷ e.left ∷ [])))) caps.before.start_caps-first.ensures
+    ∙ ap (λ k. rows_of 6 (cap_lines (start_caps_of s.start) ++ (cap_lines k ++ (e.right ∷ e.left ∷ [])))) caps.end_caps-last.ensures
     ∙ ap (λ k. rows_of 6 (cap_lines (start_caps_of s.start) ++ (cap_lines (end_caps_of s.end) ++ (k.right-1 ∷ k.left-1 ∷ [])))) d.edges-e.ensures
     ∙ sym (simp (sym t.before.is_skeleton.ensures ∙ t.if-is_skeleton.false))
 

@@ -42,7 +42,7 @@ unfolding perimeter_of count_of
 scan-requires c κs =
     let b = begin c in
     let s = b.args.segment in
-    (rw c.perimeter_count.ensures (drawn-most s), rw c.before.perimeter.ensures (rows-near _ 6 (drawn s) (drawn-near s b.pre)))
+    (rw c.perimeter_count.ensures (drawn-most s), rw c.before.perimeter.ensures (rows-near _ 6 (drawn s) (drawn-near s b.requires)))
 
 returns-3 : tie.Need-returns
 unfolding span_on perimeter_of count_of
