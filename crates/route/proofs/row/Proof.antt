@@ -30,7 +30,7 @@ returns c =
 returns-2 : tie.Need-returns
 returns-2 c =
     let r = c.before in
-    let e = r.before.before in
+    let e = r.before.before.before.before in
     let p = e.before.before in
     let s = p.before.before in
     let a = s.args in

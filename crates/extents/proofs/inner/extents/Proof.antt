@@ -66,7 +66,7 @@ returns : tie.Need-returns
 unfolding extents_of
 returns c =
     let last = c.before.before.before.before.before.before in
-    rw (c.before.before.before.close.ensures, c.close-2.ensures, lasted last, planned last.before.before.before)
+    rw (c.before.before.before.close.ensures, c.close-2.ensures, lasted last, planned last.before.before.before.before)
 
 pub extents_spec : {M : Type 1} → statement M
 extents_spec =

@@ -7,21 +7,21 @@ use Rattle.intersection_params.proofs.inner.found.Statement.{statement}
 use Rattle.intersection_params.proofs.inner.found.Tie as tie
 
 -- where the solution is drawn
-drawn-at : (c : tie.In-At-2) → drawn_of c.before.before.before.args.solution ≡ At c.point-1.given.0.0 c.point-1.given.0.1.0
-drawn-at c = sym c.before.before.drawn.ensures ∙ c.point-1.given.1
+drawn-at : (c : tie.In-At-2) → drawn_of c.before.before.args.solution ≡ At c.point-1.given.0.0 c.point-1.given.0.1.0
+drawn-at c = sym c.before.drawn.ensures ∙ c.point-1.given.1
 
 returns : tie.Need-returns-in_default
 unfolding found_of
 returns c =
-    let s = c.before.before.before.args.solution in
-    sym (ap (with_divisions (divisions_of s)) (sym c.before.before.drawn.ensures ∙ c.enum_told-1.given.1))
+    let s = c.before.before.args.solution in
+    sym (ap (with_divisions (divisions_of s)) (sym c.before.drawn.ensures ∙ c.enum_told-1.given.1))
 
 divisions-requires : tie.Need-divisions-requires
-divisions-requires c κs = let s = c.before.before.before.before in (s.requires, some-drawn s.args.solution (drawn-at c.before))
+divisions-requires c κs = let s = c.before.before in (s.requires, some-drawn s.args.solution (drawn-at c))
 
 returns-2 : tie.Need-returns
 unfolding found_of
-returns-2 c = simp (c.divisions.ensures, drawn-at c.before.before)
+returns-2 c = simp (c.divisions.ensures, drawn-at c.before)
 
 pub found_spec : {M : Type 1} → statement M
 found_spec =

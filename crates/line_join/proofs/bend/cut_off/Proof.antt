@@ -7,13 +7,13 @@ use Rattle.line_join.proofs.bend.cut_off.Tie as tie
 returns : tie.Need-returns-in-Left
 returns c =
     let told = c.before.before in
-    let a = told.before.before.args in
+    let a = told.before.args in
     ap (λ s. cut_off s a.edge a.crossing) (sym told.enum_told-1.given.1)
 
 returns-2 : tie.Need-returns-in-Right
 returns-2 c =
     let told = c.before.before in
-    let a = told.before.before.args in
+    let a = told.before.args in
     ap (λ s. cut_off s a.edge a.crossing) (sym told.enum_told-in-Right-1.given.1)
 
 pub cut_off_spec : {M : Type 1} → statement M

@@ -9,19 +9,19 @@ use Rattle.line_join.proofs.bend.overlap.Tie as tie
 
 check-side-requires : tie.Need-check_side-requires
 check-side-requires c κs =
-    let t = c.before.before.before.before.before.before.requires in
+    let t = c.before.before.before.before.before.requires in
     (rw c.before.from_line.ensures (tame t.0.right_near), t.1.right_near.end_near)
 
 check-side-requires-2 : tie.Need-check_side-requires-in-Right
 check-side-requires-2 c κs =
-    let t = c.before.before.before.before.before.before.requires in
+    let t = c.before.before.before.before.before.requires in
     (rw c.before.from_line-in-Right.ensures (tame t.0.left_near), t.1.left_near.end_near)
 
 returns : tie.Need-returns-in-Left
 unfolding overlapping
 returns c =
     let told = c.before.before.before.before.before in
-    let a = told.before.before.args in
+    let a = told.before.args in
     c.check_side.ensures
     ∙ ap (λ e. is_on_side e a.second.right.end Left) c.before.before.from_line.ensures
     ∙ ap (λ s. overlapping s a.first a.second) (sym told.enum_told-1.given.1)
@@ -30,7 +30,7 @@ returns-2 : tie.Need-returns-in-Right
 unfolding overlapping
 returns-2 c =
     let told = c.before.before.before.before.before in
-    let a = told.before.before.args in
+    let a = told.before.args in
     c.check_side-in-Right.ensures
     ∙ ap (λ e. is_on_side e a.second.left.end Right) c.before.before.from_line-in-Right.ensures
     ∙ ap (λ s. overlapping s a.first a.second) (sym told.enum_told-in-Right-1.given.1)

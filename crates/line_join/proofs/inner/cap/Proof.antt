@@ -11,8 +11,8 @@ use Rattle.line_join.proofs.inner.cap.Statement.{statement}
 use Rattle.line_join.proofs.inner.cap.Tie as tie
 
 -- the filler line
-found : (c : tie.In-Filled-2) → filler_of c.before.before.before.before.before.args.join ≡ Filled c.line-1.given.0.0
-found c = sym c.before.before.filler.ensures ∙ c.line-1.given.1
+found : (c : tie.In-Filled-2) → filler_of c.before.before.before.before.args.join ≡ Filled c.line-1.given.0.0
+found c = sym c.before.filler.ensures ∙ c.line-1.given.1
 
 returns : tie.Need-returns-in_default
 unfolding cap_of
@@ -23,12 +23,12 @@ returns c =
 
 midpoint-requires : tie.Need-midpoint-mid-requires
 midpoint-requires c κs =
-    let l = c.before in
-    line-near-more (subst (FillerNear line_limit) (found l) (filler-near l.before.before.before.before.before.requires)) (lit≤ tt)
+    let l = c in
+    line-near-more (subst (FillerNear line_limit) (found l) (filler-near l.before.before.before.before.requires)) (lit≤ tt)
 
 returns-2 : tie.Need-returns
 unfolding cap_of
-returns-2 c = simp (found c.before.before, c.midpoint-mid.ensures)
+returns-2 c = simp (found c.before, c.midpoint-mid.ensures)
 
 pub cap_spec : {M : Type 1} → statement M
 cap_spec = tie.close (tie.spec (λ c κs. search rules) (λ c. search rules) returns midpoint-requires returns-2)

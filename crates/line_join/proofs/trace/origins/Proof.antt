@@ -6,12 +6,12 @@ use Rattle.line_join.proofs.trace.origins.Statement.{statement}
 use Rattle.line_join.proofs.trace.origins.Tie as tie
 
 returns : tie.Need-returns-in-Miter
-returns c = let a = c.before.before.args in ap (λ k. origins_by k a.left a.right) (sym c.enum_told-1.given.1)
+returns c = let a = c.before.args in ap (λ k. origins_by k a.left a.right) (sym c.enum_told-1.given.1)
 
 returns-2 : tie.Need-returns-in-Bevel
 returns-2 c =
-    let known = c.before.before in
-    let a = known.before.before.args in
+    let known = c.before in
+    let a = known.before.args in
     c.cut_origins.ensures ∙ ap (λ k. origins_by k a.left a.right) (sym known.kind-1.given.1)
 
 returns-3 : tie.Need-returns-in_default

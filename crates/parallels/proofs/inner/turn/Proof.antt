@@ -25,16 +25,16 @@ returns : tie.Need-returns-then-met
 unfolding turn_of
 returns c =
     let bent = c.before in
-    let falling = bent.before.before in
+    let falling = bent.before.before.before in
     let met = falling.before.before in
-    rw (c.extra_turn.ensures, bent.bend.ensures, (error met.before).is, falling.is_falling-falling.ensures, ← met.across-met.ensures, falling.before.if-met.true)
+    rw (c.extra_turn.ensures, bent.bend.ensures, (error met.before.before.before).is, falling.is_falling-falling.ensures, ← met.across-met.ensures, falling.before.if-met.true)
 
 returns-2 : tie.Need-returns
 unfolding turn_of
 returns-2 c =
     let else = c.before.before in
     let met = else.before in
-    rw (c.normal_turn.ensures, (error met.before).is, ← met.across-met.ensures, else.if-met.false)
+    rw (c.normal_turn.ensures, (error met.before.before.before).is, ← met.across-met.ensures, else.if-met.false)
 
 pub turn_spec : {M : Type 1} → statement M
 turn_spec =

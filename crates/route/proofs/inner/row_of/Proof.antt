@@ -42,9 +42,9 @@ list-sound-requires c κs =
 returns-2 : tie.Need-returns-then-within
 returns-2 c =
     let l = c.before.before in
-    let b = l.before.before.before.before in
+    let b = l.before.before.before.before.before.before in
     let a = b.before.before.before.args in
-    listed-on a.limit a.route a.row a.out.now (number b ∙ l.before.before.if-answer-ne0.false) (ap (λ d. d.board) (drawn b)) l.list_sound-listed.ensures.0 (to_z-of_z {w = w64} {z = l.list_sound-listed.result.total} (search rules)) l.list_sound-listed.ensures.1
+    listed-on a.limit a.route a.row a.out.now (number b ∙ l.before.before.before.before.if-answer-ne0.false) (ap (λ d. d.board) (drawn b)) l.list_sound-listed.ensures.0 (to_z-of_z {w = w64} {z = l.list_sound-listed.result.total} (search rules)) l.list_sound-listed.ensures.1
 
 returns-3 : tie.Need-returns
 unfolding refusal_on

@@ -68,7 +68,7 @@ loop-less c =
 loop-again : tie.Need-loop-telling-preserved invariant-loop decreases-loop
 loop-again c =
     let put = c.before.before.before in
-    let y = put.before.before.before in
+    let y = put.before.before.before.before.before in
     let l = y.before.before.before in
     let s = l.before in
     let i = l.loop-telling.invariant in

@@ -13,11 +13,11 @@ returns c =
 returns-2 : tie.Need-returns
 returns-2 c =
     let left = c.before in
-    let end = left.before in
+    let end = left.before.before in
     let start = end.before in
     let right = start.before in
-    let caps = right.before in
-    let t = caps.before.before in
+    let caps = right.before.before in
+    let t = caps.before.before.before.before in
     let d = t.before.before in
     c.around.ensures
     ∙ simp (
@@ -25,7 +25,7 @@ returns-2 c =
       start.with_cap_rows.ensures,
       right.line_rows-2.ensures,
       left.line_rows-3.ensures,
-      caps.before.start_caps-first.ensures,
+      caps.before.before.start_caps-first.ensures,
       caps.end_caps-last.ensures,
       d.edges-e.ensures,
     ) (sym (perimeter-rows d.before.args.segment (sym t.before.is_skeleton.ensures ∙ t.if-is_skeleton.false)))

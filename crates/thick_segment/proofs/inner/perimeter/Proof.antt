@@ -46,19 +46,19 @@ returns-2 c =
     let capped = counted.before in
     let first = capped.before.before in
     let caps = first.before in
-    let t = caps.before.before in
+    let t = caps.before.before.before.before in
     let d = t.before.before.before.before in
     let s = d.before.args.segment in
     let e = d.edges-e.result in
     let i = first.cap_count-after_start.result in
     let j = counted.cap_count.result in
-    let start = caps.before.start_caps-first.result in
+    let start = caps.before.before.start_caps-first.result in
     let end = caps.end_caps-last.result in
     let lines = capped.with_caps-capped.ensures ∙ ap (λ rows. placed rows i (cap_lines end)) capped.before.with_caps.ensures in
     c.with_line-3.ensures
     ∙ ap (λ rows. set rows (i + j + 1) (coordinates e.left)) (c.before.with_line-2.ensures ∙ ap (λ rows. set rows (i + j) (coordinates e.right)) lines)
     ∙ placed-all 6 (cap_lines start) (cap_lines end) e.right e.left first.cap_count-after_start.ensures counted.cap_count.ensures (omega (arith, caps-most start, caps-most end))
-    ∙ ap (λ k. rows_of 6 (cap_lines k ++ (cap_lines end ++ (e.right ∷ e.left ∷ [])))) caps.before.start_caps-first.ensures
+    ∙ ap (λ k. rows_of 6 (cap_lines k ++ (cap_lines end ++ (e.right ∷ e.left ∷ [])))) caps.before.before.start_caps-first.ensures
     ∙ ap (λ k. rows_of 6 (cap_lines (start_caps_of s.start) ++ (cap_lines k ++ (e.right ∷ e.left ∷ [])))) caps.end_caps-last.ensures
     ∙ ap (λ k. rows_of 6 (cap_lines (start_caps_of s.start) ++ (cap_lines (end_caps_of s.end) ++ (k.right-1 ∷ k.left-1 ∷ [])))) d.edges-e.ensures
     ∙ sym (simp (sym t.before.is_skeleton.ensures ∙ t.if-is_skeleton.false))

@@ -21,7 +21,7 @@ returns-2 : tie.Need-returns
 unfolding count_of drawn
 returns-2 c =
     let m = c.before.before.before in
-    let e = m.before.before in
+    let e = m.before.before.before in
     let first = m.cap_count.ensures ∙ ap (λ k. length (cap_lines k)) m.before.start_caps.ensures in
     let last = c.cap_count-2.ensures ∙ ap (λ k. length (cap_lines k)) c.before.end_caps.ensures in
     simp (sym e.before.is_skeleton.ensures ∙ e.if-is_skeleton.false, length-append) (omega (arith, first, last))

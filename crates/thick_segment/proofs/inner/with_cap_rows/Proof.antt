@@ -8,7 +8,7 @@ returns : tie.Need-returns-in-One
 unfolding with_lines
 returns c =
     let line = c.before in
-    let k = line.before.before in
+    let k = line.before in
     c.around.ensures ∙ simp (k.caps-1.given.1, line.line_rows.ensures) refl
 
 returns-2 : tie.Need-returns-in-Two
@@ -16,7 +16,7 @@ unfolding with_lines
 returns-2 c =
     let second = c.before in
     let first = second.before.before in
-    let k = first.before.before in
+    let k = first.before in
     c.around-in-Two-2.ensures ∙ simp (k.caps-in-Two-1.given.1, second.line_rows-in-Two-2.ensures, second.before.around-in-Two.ensures, first.line_rows-in-Two.ensures) refl
 
 returns-3 : tie.Need-returns-in-Refused
