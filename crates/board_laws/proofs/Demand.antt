@@ -69,8 +69,8 @@ module _ {k : ℕ} {y : ℤ} {b : Board} {held : List Span} (h : Holds k y b hel
 holds : {k : ℕ} {y : ℤ} {b : Board} {held : List Span} (es : List Event) → Holds k y b held → Holds k y (reached k b es) (accepted k b held es)
 unfolding reached accepted after
 holds [] h = h
-holds (offers s ∷ es) h = holds es (offer-holds h s)
-holds (clears ∷ es) h = holds es (clear-holds h)
+holds {k = k} {b = b} (offers s ∷ es) h = holds {b = (offered k b s).board} es (offer-holds h s)
+holds {k = k} {b = b} (clears ∷ es) h = holds {b = (cleared k b).board} es (clear-holds h)
 holds (lists out ∷ es) h = holds es h
 
 begun-holds : {k : ℕ} {y : ℤ} → Within y k → Holds k y (begun k y).board []

@@ -7,14 +7,14 @@ use Rattle.intersection_params.proofs.inner.found.Statement.{statement}
 use Rattle.intersection_params.proofs.inner.found.Tie as tie
 
 -- where the solution is drawn
-drawn-at : (c : tie.In-At-2) → drawn_of c.before.before.args.solution ≡ At c.point-1.given.0.0 c.point-1.given.0.1.0
-drawn-at c = sym c.before.drawn.ensures ∙ c.point-1.given.1
+drawn-at : (c : tie.In-At) → drawn_of c.before.before.args.solution ≡ At c.in-At.point c.in-At.side
+drawn-at c = sym c.before.drawn.ensures ∙ c.in-At.is
 
 returns : tie.Need-returns-in_default
 unfolding found_of
 returns c =
     let s = c.before.before.args.solution in
-    sym (ap (with_divisions (divisions_of s)) (sym c.before.drawn.ensures ∙ c.enum_told-1.given.1))
+    sym (ap (with_divisions (divisions_of s)) (sym c.before.drawn.ensures ∙ c.in_default.is))
 
 divisions-requires : tie.Need-divisions-requires
 divisions-requires c κs = let s = c.before.before in (s.requires, some-drawn s.args.solution (drawn-at c))

@@ -21,11 +21,11 @@ right : (c : tie.After-meet-on_right) → let a = c.before.before.before.before.
 right c = ap (λ m. m.found) c.meet-on_right.ensures
 
 -- it is a point
-left_at : (c : tie.In-At-2) → let a = c.before.before.before.before.before.before.before.args in meet a.second.left a.first.left ≡ At c.found_left-1.given.0.0 c.found_left-1.given.0.1.0
-left_at c = sym (left c.before.before.before.before) ∙ c.found_left-1.given.1
+left_at : (c : tie.In-At) → let a = c.before.before.before.before.before.before.before.args in meet a.second.left a.first.left ≡ At c.in-At.point c.in-At.side
+left_at c = sym (left c.before.before.before.before) ∙ c.in-At.is
 
-right_at : (c : tie.In-At-found_right-2) → let a = c.before.before.before.before.before.before.before.before.args in meet a.second.right a.first.right ≡ At c.found_right-1.given.0.0 c.found_right-1.given.0.1.0
-right_at c = sym (right c.before.before) ∙ c.found_right-1.given.1
+right_at : (c : tie.In-At-found_right) → let a = c.before.before.before.before.before.before.before.before.args in meet a.second.right a.first.right ≡ At c.in-At-found_right.point c.in-At-found_right.side
+right_at c = sym (right c.before.before) ∙ c.in-At-found_right.is
 
 -- the join's origins are those of the two meetings
 with-origins : (c : tie.After-traced) → let m = c.before.before.before.before in c.traced.result ≡ traced_by m.before.before.before.meet-on_left.result.origin m.meet-on_right.result.origin c.before.bent_at-join.result
@@ -35,7 +35,7 @@ returns : tie.Need-returns-in_default
 unfolding bent_of
 returns c =
     let told = c.before in
-    let none = sym (left told.before.before.before.before) ∙ told.enum_told-1.given.1 in
+    let none = sym (left told.before.before.before.before) ∙ told.in_default.is in
     c.at_edges.ensures ∙ simp none
 
 returns-2 : tie.Need-returns-in_default-found_right
@@ -43,7 +43,7 @@ unfolding bent_of
 returns-2 c =
     let told = c.before in
     let l = told.before in
-    let none = sym (right l.before) ∙ told.enum_told-in_default-found_right-1.given.1 in
+    let none = sym (right l.before) ∙ told.in_default-found_right.is in
     c.at_edges-in_default-found_right.ensures ∙ simp (left_at l, none)
 
 bent-at-requires : tie.Need-bent_at-join-requires
@@ -66,7 +66,7 @@ returns-3 c =
     let m = l.before in
     let a = m.before.before.before.before.before.before.args in
     let width = (thin-held m.before.before.before.before.before.before.requires.1.1.1).is in
-    let join = b.bent_at-join.ensures ∙ ap (bent_at l.found_left-1.given.0.1.0 (corners_of l.found_left-1.given.0.0 r.found_right-1.given.0.0) a.first a.second a.mid) width in
+    let join = b.bent_at-join.ensures ∙ ap (bent_at l.in-At.side (corners_of l.in-At.point r.in-At-found_right.point) a.first a.second a.mid) width in
     with-origins c
     ∙ all (ap (λ x. x.origin) m.before.before.before.meet-on_left.ensures) (ap (λ x. x.origin) m.meet-on_right.ensures) join
     ∙ simp (left_at l, right_at r)

@@ -8,13 +8,13 @@ returns : tie.Need-returns-in-Left
 returns c =
     let told = c.before.before in
     let a = told.before.args in
-    ap (λ s. cut_off s a.edge a.crossing) (sym told.enum_told-1.given.1)
+    ap (λ s. cut_off s a.edge a.crossing) (sym told.in-Left.is)
 
 returns-2 : tie.Need-returns-in-Right
 returns-2 c =
     let told = c.before.before in
     let a = told.before.args in
-    ap (λ s. cut_off s a.edge a.crossing) (sym told.enum_told-in-Right-1.given.1)
+    ap (λ s. cut_off s a.edge a.crossing) (sym told.in-Right.is)
 
 pub cut_off_spec : {M : Type 1} → statement M
 cut_off_spec = tie.close (tie.spec (λ c. search rules) (λ c. search rules) returns returns-2)

@@ -17,13 +17,13 @@ drawn-requires c κs = let t = c.before.before.requires in rw c.solve-solution.e
 
 returns : tie.Need-returns-in_default
 unfolding meet origin_of
-returns c = let d = c.before in simp (sym (crossed d) ∙ c.enum_told-1.given.1)
+returns c = let d = c.before in simp (sym (crossed d) ∙ c.in_default.is)
 
 returns-2 : tie.Need-returns-then-nearly_colinear
 unfolding meet origin_of
 returns-2 c =
     let at = c.before.before in
-    simp (sym (crossed at.before) ∙ at.point-1.given.1, sym c.before.nearly_colinear.ensures ∙ c.if-nearly_colinear.true)
+    simp (sym (crossed at.before) ∙ at.in-At.is, sym c.before.nearly_colinear.ensures ∙ c.if-nearly_colinear.true)
 
 divisions-requires : tie.Need-divisions-requires
 divisions-requires c κs =
@@ -31,7 +31,7 @@ divisions-requires c κs =
     let d = at.before in
     let s = d.before in
     let t = s.before.before.requires in
-    (rw s.solve-solution.ensures (solution-roomy t.0 t.1), some-drawn s.solve-solution.result (sym d.drawn.ensures ∙ at.point-1.given.1))
+    (rw s.solve-solution.ensures (solution-roomy t.0 t.1), some-drawn s.solve-solution.result (sym d.drawn.ensures ∙ at.in-At.is))
 
 returns-3 : tie.Need-returns
 unfolding meet origin_of
@@ -39,7 +39,7 @@ returns-3 c =
     let else = c.before in
     let at = else.before.before in
     let d = at.before in
-    simp (sym (crossed d) ∙ at.point-1.given.1, sym else.before.nearly_colinear.ensures ∙ else.if-nearly_colinear.false, c.divisions.ensures ∙ ap divisions_of d.before.solve-solution.ensures)
+    simp (sym (crossed d) ∙ at.in-At.is, sym else.before.nearly_colinear.ensures ∙ else.if-nearly_colinear.false, c.divisions.ensures ∙ ap divisions_of d.before.solve-solution.ensures)
 
 pub meet_spec : {M : Type 1} → statement M
 meet_spec =

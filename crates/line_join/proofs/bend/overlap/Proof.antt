@@ -24,7 +24,7 @@ returns c =
     let a = told.before.args in
     c.check_side.ensures
     ∙ ap (λ e. is_on_side e a.second.right.end Left) c.before.before.from_line.ensures
-    ∙ ap (λ s. overlapping s a.first a.second) (sym told.enum_told-1.given.1)
+    ∙ ap (λ s. overlapping s a.first a.second) (sym told.in-Left.is)
 
 returns-2 : tie.Need-returns-in-Right
 unfolding overlapping
@@ -33,7 +33,7 @@ returns-2 c =
     let a = told.before.args in
     c.check_side-in-Right.ensures
     ∙ ap (λ e. is_on_side e a.second.left.end Right) c.before.before.from_line-in-Right.ensures
-    ∙ ap (λ s. overlapping s a.first a.second) (sym told.enum_told-in-Right-1.given.1)
+    ∙ ap (λ s. overlapping s a.first a.second) (sym told.in-Right.is)
 
 pub overlap_spec : {M : Type 1} → statement M
 overlap_spec =

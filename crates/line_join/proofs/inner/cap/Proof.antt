@@ -11,8 +11,8 @@ use Rattle.line_join.proofs.inner.cap.Statement.{statement}
 use Rattle.line_join.proofs.inner.cap.Tie as tie
 
 -- the filler line
-found : (c : tie.In-Filled-2) → filler_of c.before.before.before.before.args.join ≡ Filled c.line-1.given.0.0
-found c = sym c.before.filler.ensures ∙ c.line-1.given.1
+found : (c : tie.In-Filled) → filler_of c.before.before.before.before.args.join ≡ Filled c.in-Filled.given.0.0
+found c = sym c.before.filler.ensures ∙ c.in-Filled.is
 
 returns : tie.Need-returns-in_default
 unfolding cap_of

@@ -11,14 +11,14 @@ unfolding filler_of
 returns c =
     let known = c.before.before.before in
     let j = known.before.args.join in
-    ap Filled c.outer_line.ensures ∙ ap (λ k. filler_by k j.ending j.starting) (sym known.kind-1.given.1)
+    ap Filled c.outer_line.ensures ∙ ap (λ k. filler_by k j.ending j.starting) (sym known.in-Bevel.is)
 
 returns-2 : tie.Need-returns-in-Degenerate
 unfolding filler_of
 returns-2 c =
     let known = c.before.before.before in
     let j = known.before.args.join in
-    ap Filled c.outer_line-in-Degenerate.ensures ∙ ap (λ k. filler_by k j.ending j.starting) (sym known.kind-in-Degenerate-1.given.1)
+    ap Filled c.outer_line-in-Degenerate.ensures ∙ ap (λ k. filler_by k j.ending j.starting) (sym known.in-Degenerate.is)
 
 returns-3 : tie.Need-returns-in_default
 unfolding filler_of

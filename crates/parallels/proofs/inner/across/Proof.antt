@@ -3,10 +3,10 @@ use Rattle.parallels.proofs.inner.across.Statement.{statement}
 use Rattle.parallels.proofs.inner.across.Tie as tie
 
 returns : tie.Need-returns-in-Left
-returns c = rw c.before.enum_told-1.given.1 c.next_all.ensures
+returns c = rw c.before.in-Left.is c.next_all.ensures
 
 returns-2 : tie.Need-returns-in-Right
-returns-2 c = rw c.before.enum_told-in-Right-1.given.1 c.previous_all.ensures
+returns-2 c = rw c.before.in-Right.is c.previous_all.ensures
 
 pub across_spec : {M : Type 1} → statement M
 across_spec =

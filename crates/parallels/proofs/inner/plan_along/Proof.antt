@@ -42,10 +42,10 @@ mul-threshold-2 c =
     fits-mul (hold-mul twice twice tt) (length c) tt
 
 -- the major step, in its bits
-major-x : (c : tie.After-parameters_along-parallel) → Hold (of_z w64 c.parameters_along-parallel.result.major.x) (parameters_along c.before.args.d).major-1.x 1
+major-x : (c : tie.After-parameters_along-parallel) → Hold (of_z w64 c.parameters_along-parallel.result.major.x) (parameters_along c.before.args.d).major.x 1
 major-x c = rw c.parameters_along-parallel.ensures (x-held (major_unit c.before.args.d) tt)
 
-major-y : (c : tie.After-parameters_along-parallel) → Hold (of_z w64 c.parameters_along-parallel.result.major.y) (parameters_along c.before.args.d).major-1.y 1
+major-y : (c : tie.After-parameters_along-parallel) → Hold (of_z w64 c.parameters_along-parallel.result.major.y) (parameters_along c.before.args.d).major.y 1
 major-y c = rw c.parameters_along-parallel.ensures (y-held (major_unit c.before.args.d) tt)
 
 sub-t12 : tie.Need-overflow_sub-opposite
@@ -65,7 +65,7 @@ returns c =
     let twice = hold-mul (literal 2 tt) (hold c.before.before.before.before.before.before.before.before.before.before.before.before.before.requires.1 tt) tt in
     let along : c.before.before.before.before.before.before.before.before.before.before.before.before.parameters_along-parallel.result ≡ parameters_along d = c.before.before.before.before.before.before.before.before.before.before.before.before.parameters_along-parallel.ensures in
     let across : c.before.before.before.before.before.before.before.before.parameters_along-perpendicular.result ≡ parameters_along (turned_back d) = c.before.before.before.before.before.before.before.before.parameters_along-perpendicular.ensures ∙ ap parameters_along (point-held (y-held near tt) (hold-neg (x-held near tt) tt)) in
-    let flip : c.same_point-flip.result ≡ same_point c.before.before.before.before.before.before.before.before.parameters_along-perpendicular.result.minor (opposite (parameters_along d).major-1) = c.same_point-flip.ensures ∙ ap (same_point c.before.before.before.before.before.before.before.before.parameters_along-perpendicular.result.minor) (point-held (hold-neg (major-x c.before.before.before.before.before.before.before.before.before.before.before.before) tt) (hold-neg (major-y c.before.before.before.before.before.before.before.before.before.before.before.before) tt)) in
+    let flip : c.same_point-flip.result ≡ same_point c.before.before.before.before.before.before.before.before.parameters_along-perpendicular.result.minor (opposite (parameters_along d).major) = c.same_point-flip.ensures ∙ ap (same_point c.before.before.before.before.before.before.before.before.parameters_along-perpendicular.result.minor) (point-held (hold-neg (major-x c.before.before.before.before.before.before.before.before.before.before.before.before) tt) (hold-neg (major-y c.before.before.before.before.before.before.before.before.before.before.before.before) tt)) in
     rw (flip, (hold-mul (hold-mul twice twice tt) (length c.before.before.before.before.before.before.before) tt).is, across, along)
 
 pub plan_along_spec : {M : Type 1} → statement M

@@ -126,7 +126,7 @@ module _ (c : tie.Joined-is_empty invariant-loop decreases-loop) where
   kept : is_empty (lit-at (began turn) (place turn)) ≡ true → Goes held
   kept e = record { few = turn.before.loop-k.invariant.1.1.0; on = sym (offer-empty held _ rest e) ∙ left turn }
 
-  taken : (added held (lit-at (began turn) (place turn))).refusal ≡ 0 → Goes (added held (lit-at (began turn) (place turn))).board-1
+  taken : (added held (lit-at (began turn) (place turn))).refusal ≡ 0 → Goes (added held (lit-at (began turn) (place turn))).board
   taken e = record { few = added-few held _ turn.before.loop-k.invariant.1.1.0; on = sym (offer-on held _ rest e) ∙ left turn }
 
   empty : c.before.is_empty.result ≡ is_empty (lit-at (began turn) (place turn))

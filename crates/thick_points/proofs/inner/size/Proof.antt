@@ -3,7 +3,7 @@ use Rattle.thick_points.proofs.inner.size.Statement.{statement}
 use Rattle.thick_points.proofs.inner.size.Tie as tie
 
 returns-2 : tie.Need-returns-in-Points
-returns-2 c = rw (c.before.enum_told-in-Points-1.given.1, c.length_on.ensures)
+returns-2 c = rw (c.before.in-Points.is, c.length_on.ensures)
 
 pub size_spec : {M : Type 1} → statement M
 size_spec =

@@ -9,7 +9,7 @@ unfolding with_lines
 returns c =
     let line = c.before in
     let k = line.before in
-    c.around.ensures ∙ simp (k.caps-1.given.1, line.line_rows.ensures) refl
+    c.around.ensures ∙ simp (k.in-One.is, line.line_rows.ensures) refl
 
 returns-2 : tie.Need-returns-in-Two
 unfolding with_lines
@@ -17,11 +17,11 @@ returns-2 c =
     let second = c.before in
     let first = second.before.before in
     let k = first.before in
-    c.around-in-Two-2.ensures ∙ simp (k.caps-in-Two-1.given.1, second.line_rows-in-Two-2.ensures, second.before.around-in-Two.ensures, first.line_rows-in-Two.ensures) refl
+    c.around-in-Two-2.ensures ∙ simp (k.in-Two.is, second.line_rows-in-Two-2.ensures, second.before.around-in-Two.ensures, first.line_rows-in-Two.ensures) refl
 
 returns-3 : tie.Need-returns-in-Refused
 unfolding with_lines
-returns-3 c = simp c.enum_told-1.given.1 refl
+returns-3 c = simp c.in-Refused.is refl
 
 pub with_cap_rows_spec : {M : Type 1} → statement M
 with_cap_rows_spec =

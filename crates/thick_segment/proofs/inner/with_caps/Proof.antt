@@ -6,18 +6,18 @@ use Rattle.thick_segment.proofs.inner.with_caps.Tie as tie
 
 returns : tie.Need-returns-in-One
 unfolding placed
-returns c = let k = c.before in c.with_line.ensures ∙ simp k.caps-1.given.1
+returns c = let k = c.before in c.with_line.ensures ∙ simp k.in-One.is
 
 returns-2 : tie.Need-returns-in-Two
 unfolding placed
 returns-2 c =
     let w = c.before in
     let k = w.before in
-    c.with_line-in-Two-2.ensures ∙ simp (k.caps-in-Two-1.given.1, w.with_line-in-Two.ensures)
+    c.with_line-in-Two-2.ensures ∙ simp (k.in-Two.is, w.with_line-in-Two.ensures)
 
 returns-3 : tie.Need-returns-in-Refused
 unfolding placed
-returns-3 c = simp c.enum_told-1.given.1
+returns-3 c = simp c.in-Refused.is
 
 pub with_caps_spec : {M : Type 1} → statement M
 with_caps_spec =
