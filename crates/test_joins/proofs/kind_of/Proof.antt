@@ -5,31 +5,31 @@ use Rattle.test_joins.proofs.kind_of.Tie as tie
 
 returns : tie.Need-returns-in-48
 unfolding kind_of
-returns c = rw c.in_default.keys1
+returns c = rw c.in_default.in_default-own.keys1
 
 returns-2 : tie.Need-returns-in-49
 unfolding kind_of
-returns-2 c = rw c.in_default.keys2
+returns-2 c = rw c.in_default.in_default-own.keys2
 
 returns-3 : tie.Need-returns-in-50
 unfolding kind_of
-returns-3 c = rw c.in_default.keys3
+returns-3 c = rw c.in_default.in_default-own.keys3
 
 returns-4 : tie.Need-returns-in-51
 unfolding kind_of
-returns-4 c = rw c.in_default.keys4
+returns-4 c = rw c.in_default.in_default-own.keys4
 
 returns-5 : tie.Need-returns-in-52
 unfolding kind_of
-returns-5 c = rw c.in_default.keys5
+returns-5 c = rw c.in_default.in_default-own.keys5
 
 returns-6 : tie.Need-returns-in-53
 unfolding kind_of
-returns-6 c = rw c.in_default.keys6
+returns-6 c = rw c.in_default.in_default-own.keys6
 
 returns-7 : tie.Need-returns-in-54
 unfolding kind_of
-returns-7 c = rw c.in_default.keys7
+returns-7 c = rw c.in_default.in_default-own.keys7
 
 returns-8 : tie.Need-returns-in_default
 unfolding kind_of

@@ -47,7 +47,7 @@ loop-again c =
 returns : tie.Need-returns invariant-loop decreases-loop
 returns c =
     let l = c.before.before.loop-plan in
-    sym (lasts-end c.before.before.before.args.plan l.at-1 l.last (sym c.before.is_done.ensures ∙ c.if-is_done.true)) ∙ l.invariant.1
+    sym (lasts-end c.before.before.before.args.plan l.at l.last (sym c.before.is_done.ensures ∙ c.if-is_done.true)) ∙ l.invariant.1
 
 pub last_ends_spec : {M : Type 1} → statement M
 last_ends_spec =

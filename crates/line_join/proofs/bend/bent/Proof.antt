@@ -21,10 +21,10 @@ right : (c : tie.After-meet-on_right) → let a = c.before.before.before.before.
 right c = ap (λ m. m.found) c.meet-on_right.ensures
 
 -- it is a point
-left_at : (c : tie.In-At) → let a = c.before.before.before.before.before.before.before.args in meet a.second.left a.first.left ≡ At c.in-At.point c.in-At.side
+left_at : (c : tie.In-At) → let a = c.before.before.before.before.before.before.before.args in meet a.second.left a.first.left ≡ At c.in-At.left c.in-At.side
 left_at c = sym (left c.before.before.before.before) ∙ c.in-At.is
 
-right_at : (c : tie.In-At-found_right) → let a = c.before.before.before.before.before.before.before.before.args in meet a.second.right a.first.right ≡ At c.in-At-found_right.point c.in-At-found_right.side
+right_at : (c : tie.In-At-found_right) → let a = c.before.before.before.before.before.before.before.before.args in meet a.second.right a.first.right ≡ At c.in-At-found_right.right c.in-At-found_right.field-1
 right_at c = sym (right c.before.before) ∙ c.in-At-found_right.is
 
 -- the join's origins are those of the two meetings
@@ -66,7 +66,7 @@ returns-3 c =
     let m = l.before in
     let a = m.before.before.before.before.before.before.args in
     let width = (thin-held m.before.before.before.before.before.before.requires.1.1.1).is in
-    let join = b.bent_at-join.ensures ∙ ap (bent_at l.in-At.side (corners_of l.in-At.point r.in-At-found_right.point) a.first a.second a.mid) width in
+    let join = b.bent_at-join.ensures ∙ ap (bent_at l.in-At.side (corners_of l.in-At.left r.in-At-found_right.right) a.first a.second a.mid) width in
     with-origins c
     ∙ all (ap (λ x. x.origin) m.before.before.before.meet-on_left.ensures) (ap (λ x. x.origin) m.meet-on_right.ensures) join
     ∙ simp (left_at l, right_at r)

@@ -11,7 +11,7 @@ use Rattle.line_join.proofs.inner.cap.Statement.{statement}
 use Rattle.line_join.proofs.inner.cap.Tie as tie
 
 -- the filler line
-found : (c : tie.In-Filled) → filler_of c.before.before.before.before.args.join ≡ Filled c.in-Filled.given.0.0
+found : (c : tie.In-Filled) → filler_of c.before.before.before.before.args.join ≡ Filled c.in-Filled.line
 found c = sym c.before.filler.ensures ∙ c.in-Filled.is
 
 returns : tie.Need-returns-in_default
@@ -19,7 +19,7 @@ unfolding cap_of
 returns c =
     let a = c.before.before.before.before.args in
     let x = c.before.filler in
-    sym (ap (λ f. capped_by f a.corners) (sym x.ensures) ∙ not-filled x.result a.corners c.in_default.keys2)
+    sym (ap (λ f. capped_by f a.corners) (sym x.ensures) ∙ not-filled x.result a.corners c.in_default.in_default-own.keys2)
 
 midpoint-requires : tie.Need-midpoint-mid-requires
 midpoint-requires c κs =

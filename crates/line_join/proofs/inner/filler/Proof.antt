@@ -22,7 +22,7 @@ returns-2 c =
 
 returns-3 : tie.Need-returns-in_default
 unfolding filler_of
-returns-3 c = let j = c.before.args.join in sym (not-bevelled j.kind j.ending j.starting c.in_default.keys3)
+returns-3 c = let j = c.before.args.join in sym (not-bevelled j.kind j.ending j.starting c.in_default.in_default-own.keys3)
 
 pub filler_spec : {M : Type 1} → statement M
 filler_spec =

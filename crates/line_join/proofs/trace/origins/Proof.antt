@@ -15,7 +15,7 @@ returns-2 c =
     c.cut_origins.ensures ∙ ap (λ k. origins_by k a.left a.right) (sym known.in-Bevel.is)
 
 returns-3 : tie.Need-returns-in_default
-returns-3 c = let a = c.before.before.args in c.no_crossings.ensures ∙ sym (not-crossed a.kind a.left a.right c.before.in_default.keys3)
+returns-3 c = let a = c.before.before.args in c.no_crossings.ensures ∙ sym (not-crossed a.kind a.left a.right c.before.in_default.in_default-own.keys3)
 
 pub origins_spec : {M : Type 1} → statement M
 origins_spec =

@@ -137,7 +137,7 @@ module _ (c : tie.Joined-is_empty invariant-loop decreases-loop) where
       ⊎_elim (λ w. subst Goes (sym w.1) (kept (sym empty ∙ w.0.taken)))
       (λ w.
       let a = w.1.ensures ∙ ap (added held) (lit c.before.before) in
-      subst Goes (sym (w.5 ∙ ap (λ a. a.board-1) a)) (taken (sym (ap (λ a. a.refusal) a) ∙ w.3.left)))
+      subst Goes (sym (w.5 ∙ ap (λ a. a.board) a)) (taken (sym (ap (λ a. a.refusal) a) ∙ w.3.left)))
       c.if-is_empty.branch
 
 loop-again : tie.Need-loop-k-preserved invariant-loop decreases-loop

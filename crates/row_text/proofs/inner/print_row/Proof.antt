@@ -16,11 +16,11 @@ drawn : (c : tie.After-row_board) → c.row_board.result ≡ board_on c.before.a
 drawn c = cc (to_z-of_z c.before.ranges.row)
 
 sound : (c : tie.After-row_board) → Sound line_limit c.row_board.result.board
-sound c = subst (λ a. Sound line_limit a.board-1) (sym (drawn c)) (drawn-sound c.before.requires.0 c.before.requires.1.0)
+sound c = subst (λ a. Sound line_limit a.board) (sym (drawn c)) (drawn-sound c.before.requires.0 c.before.requires.1.0)
 
 returns : tie.Need-returns
 unfolding lit_on
-returns c = to_z-of_z {w = w64} {z = c.total_of.result} (search rules) ∙ c.total_of.ensures ∙ ap (λ a. total (live a.board-1)) (drawn c.before.before.before)
+returns c = to_z-of_z {w = w64} {z = c.total_of.result} (search rules) ∙ c.total_of.ensures ∙ ap (λ a. total (live a.board)) (drawn c.before.before.before)
 
 pub print_row_spec : {M : Type 1} → statement M
 print_row_spec = tie.close (tie.spec (λ c κs. search rules) (λ c κs. (sound c.before).few) (λ c κs. sound c.before.before) returns)

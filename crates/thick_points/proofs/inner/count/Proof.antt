@@ -14,7 +14,7 @@ use Rattle.thick_points.proofs.inner.count.Tie as tie
 
 abbrev invariant-loop : tie.invariant-loop-telling
 invariant-loop telling n plan at₀ count₀ at count =
-    Begun thick_limit plan at × (count + length (told_all telling n plan.parallel-1 (parallels plan at)) ≡ length (told_all telling n plan.parallel-1 (parallels plan at₀)))
+    Begun thick_limit plan at × (count + length (told_all telling n plan.parallel (parallels plan at)) ≡ length (told_all telling n plan.parallel (parallels plan at₀)))
 
 abbrev decreases-loop : tie.decreases-loop-telling
 decreases-loop telling n plan at₀ count₀ at count = spare plan at
@@ -66,7 +66,7 @@ returns : tie.Need-returns invariant-loop decreases-loop
 returns c =
     let a = c.before.before.before.args in
     let l = c.before.before.loop-telling in
-    let none = ap length (told-end a.telling a.n a.plan.parallel a.plan l.at-1 (sym c.before.is_done.ensures ∙ c.if-is_done.true)) in
+    let none = ap length (told-end a.telling a.n a.plan.parallel a.plan l.at (sym c.before.is_done.ensures ∙ c.if-is_done.true)) in
     omega (arith, l.invariant.1, none)
 
 pub count_spec : {M : Type 1} → statement M

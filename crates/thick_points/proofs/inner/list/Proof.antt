@@ -79,18 +79,18 @@ returns-2 c =
 
 put-all-requires : tie.Need-put_all-requires
 put-all-requires c κs =
-    let m = c.before.before.before.before in
-    (rw m.major_length-n.ensures (length-few (near m.before.before.before.before)), (sound m.before.before.before, (begun m.before.before, rw c.before.before.before.count-count.ensures at c.before.before.if-out-count.false)))
+    let m = c.before.before.before in
+    (rw m.major_length-n.ensures (length-few (near m.before.before.before.before)), (sound m.before.before.before, (begun m.before, rw c.count-count.ensures at c.if-out-count.false)))
 
 returns-3 : tie.Need-returns
 returns-3 c =
-    let e = c.before.before.before.before in
+    let e = c.before.before.before in
     let m = e.before.before in
     let i = m.before.before.before.before in
     let a = i.before.before.before.args in
     let ns = told_numbers a.telling a.line a.width a.offset in
     let n = counted e.before in
-    rw (c.before.put_all_lem.ensures, all m, n) (listed-all a.limit a.line a.width ns a.out.now (length ns) (accepted i).0 (accepted i).1 (rw n at e.if-out-count.false))
+    rw (c.before.put_all.ensures, all m, n) (listed-all a.limit a.line a.width ns a.out.now (length ns) (accepted i).0 (accepted i).1 (rw n at e.if-out-count.false))
 
 pub list_spec : {M : Type 1} → statement M
 list_spec =

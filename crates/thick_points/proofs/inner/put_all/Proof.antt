@@ -17,8 +17,8 @@ use Rattle.thick_points.proofs.inner.put_all.Tie as tie
 abbrev invariant-loop : tie.invariant-loop-telling
 invariant-loop out₀ telling n plan from₀ at₀ out from at =
     (length out ≡ length out₀)
-    × ((at + length (told_all telling n plan.parallel-1 (parallels plan from)) ≤ length out₀)
-    × (Begun thick_limit plan from × (sets out at (told_all telling n plan.parallel-1 (parallels plan from)) ≡ sets out₀ 0 (told_all telling n plan.parallel-1 (parallels plan from₀)))))
+    × ((at + length (told_all telling n plan.parallel (parallels plan from)) ≤ length out₀)
+    × (Begun thick_limit plan from × (sets out at (told_all telling n plan.parallel (parallels plan from)) ≡ sets out₀ 0 (told_all telling n plan.parallel (parallels plan from₀)))))
 
 abbrev decreases-loop : tie.decreases-loop-telling
 decreases-loop out₀ telling n plan from₀ at₀ out from at = spare plan from
@@ -48,7 +48,7 @@ more c =
 
 put-requires : tie.Need-put-requires invariant-loop decreases-loop
 put-requires c κs =
-    let y = c.before.before.before.before in
+    let y = c.before.before.before in
     let l = y.before.before.before in
     let q = l.before.requires in
     (q.1.0.along_fair, (q.0.0, (rw y.next-yielded.ensures (walk-yield l.before.args.n q.1.0 l.loop-telling.invariant.1.1.0 (follows y.before) q.0.1), omega (arith, l.loop-telling.invariant, more y))))
@@ -57,23 +57,23 @@ size-requires : tie.Need-size-at-requires invariant-loop decreases-loop
 size-requires c κs = c.before.before.before.before.before.before.before.before.requires.0
 
 add_at : tie.Need-overflow_add-at invariant-loop decreases-loop
-add_at c = let y = c.before.before.before.before.before.before.before in omega (arith, y.before.before.before, c.size-at.ensures, more y)
+add_at c = let y = c.before.before.before.before.before.before in omega (arith, y.before.before.before, c.size-at.ensures, more y)
 
 loop-less : tie.Need-loop-telling-smaller invariant-loop decreases-loop
 loop-less c =
-    let y = c.before.before.before.before.before.before.before.before in
+    let y = c.before.before.before.before.before.before.before in
     let l = y.before.before.before in
     rw y.next-yielded.ensures (begun-less l.before.requires.1.0 l.loop-telling.invariant.1.1.0 (follows y.before))
 
 loop-again : tie.Need-loop-telling-preserved invariant-loop decreases-loop
 loop-again c =
     let put = c.before.before.before in
-    let y = put.before.before.before.before.before in
+    let y = put.before.before.before.before in
     let l = y.before.before.before in
     let s = l.before in
     let i = l.loop-telling.invariant in
     let on = follows y.before in
-    (put.put.auto.0 ∙ i.0, (omega (arith, i.1.0, c.before.size-at.ensures, more y), rw (put.put.ensures, c.before.size-at.ensures, y.next-yielded.ensures) (begun-next s.requires.1.0 i.1.1.0 on, sym (told-stored s.requires.1.0 i.1.1.0 s.args.telling s.args.n l.loop-telling.out l.loop-telling.at on) ∙ i.1.1.1)))
+    (put.put.auto.out ∙ i.0, (omega (arith, i.1.0, c.before.size-at.ensures, more y), rw (put.put.ensures, c.before.size-at.ensures, y.next-yielded.ensures) (begun-next s.requires.1.0 i.1.1.0 on, sym (told-stored s.requires.1.0 i.1.1.0 s.args.telling s.args.n l.loop-telling.out l.loop-telling.at on) ∙ i.1.1.1)))
 
 same_length : tie.Need-shape_of-out invariant-loop decreases-loop
 same_length c = c.before.before.loop-telling.invariant.0
@@ -82,8 +82,8 @@ returns : tie.Need-returns invariant-loop decreases-loop
 returns c =
     let a = c.before.before.before.args in
     let l = c.before.before.loop-telling in
-    let none = told-end a.telling a.n a.plan.parallel a.plan l.from-1 (sym c.before.is_done.ensures ∙ c.if-is_done.true) in
-    sym (ap (sets l.out-1 l.at) none) ∙ l.invariant.1.1.1
+    let none = told-end a.telling a.n a.plan.parallel a.plan l.from (sym c.before.is_done.ensures ∙ c.if-is_done.true) in
+    sym (ap (sets l.out l.at) none) ∙ l.invariant.1.1.1
 
 pub put_all_spec : {M : Type 1} → statement M
 put_all_spec =

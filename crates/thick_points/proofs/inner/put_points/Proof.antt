@@ -31,7 +31,7 @@ next-requires : tie.Need-next-drawn-requires invariant-loop decreases-loop
 next-requires c κs =
     let s = c.before.before in
     let l = c.before.loop-left in
-    (sized s.requires.0, walk-placed s.args.along s.requires.0 l.left l.from-1 l.invariant.1.1.0)
+    (sized s.requires.0, walk-placed s.args.along s.requires.0 l.left l.from l.invariant.1.1.0)
 
 loop-again : tie.Need-loop-left-preserved invariant-loop decreases-loop
 loop-again c =
@@ -43,7 +43,7 @@ loop-again c =
     let some = y.before.loop-left-test.true in
     let q = y.next-drawn.result.point in
     let stored = rw (to_z-of_z {w = w64} {z = q.x} (search rules), to_z-of_z {w = w64} {z = q.y} (search put.before.struct_told-in-loop-left-1.given)) at put.put_pair.ensures in
-    (put.put_pair.auto.0 ∙ i.0, (omega (arith, i.1.0), rw (stored, y.next-drawn.ensures) (walk-next s.args.along s.requires.0 l.left l.from-1 i.1.1.0 some, sym (point-turn l.out-1 l.place l.left s.args.along l.from-1 some) ∙ i.1.1.1)))
+    (put.put_pair.auto.out ∙ i.0, (omega (arith, i.1.0), rw (stored, y.next-drawn.ensures) (walk-next s.args.along s.requires.0 l.left l.from i.1.1.0 some, sym (point-turn l.out l.place l.left s.args.along l.from some) ∙ i.1.1.1)))
 
 same_length : tie.Need-shape_of-out invariant-loop decreases-loop
 same_length c = c.before.loop-left.invariant.0
@@ -51,7 +51,7 @@ same_length c = c.before.loop-left.invariant.0
 returns : tie.Need-returns invariant-loop decreases-loop
 returns c =
     let l = c.before.loop-left in
-    sym (point-end l.out-1 l.place l.left c.before.before.args.along l.from-1 c.loop-left-test.false) ∙ l.invariant.1.1.1
+    sym (point-end l.out l.place l.left c.before.before.args.along l.from c.loop-left-test.false) ∙ l.invariant.1.1.1
 
 pub put_points_spec : {M : Type 1} → statement M
 put_points_spec =

@@ -60,7 +60,7 @@ returns-2 c =
     ∙ placed-all 6 (cap_lines start) (cap_lines end) e.right e.left first.cap_count-after_start.ensures counted.cap_count.ensures (omega (arith, caps-most start, caps-most end))
     ∙ ap (λ k. rows_of 6 (cap_lines k ++ (cap_lines end ++ (e.right ∷ e.left ∷ [])))) caps.before.before.start_caps-first.ensures
     ∙ ap (λ k. rows_of 6 (cap_lines (start_caps_of s.start) ++ (cap_lines k ++ (e.right ∷ e.left ∷ [])))) caps.end_caps-last.ensures
-    ∙ ap (λ k. rows_of 6 (cap_lines (start_caps_of s.start) ++ (cap_lines (end_caps_of s.end) ++ (k.right-1 ∷ k.left-1 ∷ [])))) d.edges-e.ensures
+    ∙ ap (λ k. rows_of 6 (cap_lines (start_caps_of s.start) ++ (cap_lines (end_caps_of s.end) ++ (k.right ∷ k.left ∷ [])))) d.edges-e.ensures
     ∙ sym (simp (sym t.before.is_skeleton.ensures ∙ t.if-is_skeleton.false))
 
 pub perimeter_spec : {M : Type 1} → statement M
