@@ -114,6 +114,7 @@ box-among s e =
 -- every point of the lines is on one of the rows
 with_row : (r : Rows) (ls : List Line) {q : Point} → Memᴰ q (points_of ls) → HasRow (with_lines r ls) q.y
 unfolding with_lines points_of
+with_row r [] {q = q} m = elim m [ ]
 with_row r (l ∷ ls) m =
     let wide = around r (line_rows l) in
     ⊎_elim (λ h. let b = line-rows l h in holds_row (holds_on (with-holds wide ls) (around-second r (line_rows l))) (record { from = b.low; to = b.high })) (with_row wide ls)

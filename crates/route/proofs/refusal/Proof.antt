@@ -29,13 +29,13 @@ returns c =
     (named-with panel a.closed a.coordinates.now a.width (told p))
 
 rows-refusal-requires : tie.Need-rows_refusal-requires
-rows-refusal-requires c κs = let kept = (free c.before.before.before).kept in (kept, rw c.rows_of_lem.ensures (rows-near kept))
+rows-refusal-requires c κs = let kept = (free c.before.before.before).kept in (kept, rw c.rows_of.ensures (rows-near kept))
 
 returns-2 : tie.Need-returns
 returns-2 c =
     let p = c.before.before.before.before.before.before in
     let a = p.before.before.args in
-    verdict-made panel a.closed a.coordinates.now a.width (free c.before.before.before.before) (c.rows_refusal.ensures ∙ ap (rows_refusal p.prepare-route.result.joins) c.before.rows_of_lem.ensures)
+    verdict-made panel a.closed a.coordinates.now a.width (free c.before.before.before.before) (c.rows_refusal.ensures ∙ ap (rows_refusal p.prepare-route.result.joins) c.before.rows_of.ensures)
 
 pub refusal_spec : {M : Type 1} → statement M
 refusal_spec = tie.close (tie.spec (λ c κs. search rules) (λ c κs. rw c.panel.ensures roomy) returns (λ c κs. (free c.before.before).kept) rows-refusal-requires returns-2)

@@ -27,7 +27,7 @@ returns c =
     (named-with panel a.closed a.coordinates.now a.width (told p))
 
 returns-2 : tie.Need-returns
-returns-2 c = let a = c.before.before.before.before.before.before.args in c.rows_of_lem.ensures ∙ rows_made panel a.closed a.coordinates.now a.width (free c.before.before)
+returns-2 c = let a = c.before.before.before.before.before.before.args in c.rows_of.ensures ∙ rows_made panel a.closed a.coordinates.now a.width (free c.before.before)
 
 pub rows_spec : {M : Type 1} → statement M
 rows_spec = tie.close (tie.spec (λ c κs. search rules) (λ c κs. rw c.panel.ensures roomy) returns (λ c κs. (free c.before).kept) returns-2)

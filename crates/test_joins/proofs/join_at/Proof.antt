@@ -30,7 +30,7 @@ returns c =
     let k = p.before.before.before in
     let s = k.before.before.before.args.s.now in
     let number = position p in
-    let first = a.line_at_lem.ensures ∙ ap (line_at s) (a.before.after-3.ensures ∙ ap (λ n. next_place n.next) number) in
+    let first = a.line_at-first.ensures ∙ ap (line_at s) (a.before.after-3.ensures ∙ ap (λ n. next_place n.next) number) in
     let second = b.line_at-second.ensures ∙ ap (λ l. line_at s l.next) first in
     simp (
       k.kind_of-kind.ensures ∙ ap kind_of k.before.byte_at.ensures,

@@ -27,7 +27,7 @@ room c =
     let e = c.before.before.before in
     let p = e.before.before in
     let a = p.before.args in
-    c.rows_refusal-number.ensures ∙ ap (rows_refusal p.prepare-route.result.joins) c.before.rows_of_lem.ensures ∙ whole-made a.limits a.closed a.coordinates.now a.width (free e)
+    c.rows_refusal-number.ensures ∙ ap (rows_refusal p.prepare-route.result.joins) c.before.rows_of-rows.ensures ∙ whole-made a.limits a.closed a.coordinates.now a.width (free e)
 
 -- what is printed of a refused route is what it is refused with, and its bend
 print-refused-requires : tie.Need-print_refused-requires
@@ -48,7 +48,7 @@ returns c =
     (whole-stopped a.limits a.closed a.coordinates.now a.width (refused-with a.limits a.closed a.coordinates.now a.width (told p)) some) some
 
 rows-refusal-requires : tie.Need-rows_refusal-number-requires
-rows-refusal-requires c κs = let kept = (free c.before.before).kept in (kept, rw c.rows_of_lem.ensures (rows-near kept))
+rows-refusal-requires c κs = let kept = (free c.before.before).kept in (kept, rw c.rows_of-rows.ensures (rows-near kept))
 
 print-refused-requires-2 : tie.Need-print_refused-requires-then-number-ne0
 print-refused-requires-2 c κs =
@@ -58,7 +58,7 @@ print-refused-requires-2 c κs =
     let s = p.before in
     let a = s.args in
     rw (to_z-of_z s.ranges.width)
-    (verdict-made a.limits a.closed a.coordinates.now a.width (free e) (r.rows_refusal-number.ensures ∙ ap (rows_refusal p.prepare-route.result.joins) r.before.rows_of_lem.ensures))
+    (verdict-made a.limits a.closed a.coordinates.now a.width (free e) (r.rows_refusal-number.ensures ∙ ap (rows_refusal p.prepare-route.result.joins) r.before.rows_of-rows.ensures))
 
 returns-2 : tie.Need-returns-then-number-ne0
 returns-2 c =
@@ -71,7 +71,7 @@ print-rows-requires c κs =
     let r = c.before in
     let o = r.before in
     let kept = (free o.before.before).kept in
-    (kept, (rw o.rows_of_lem.ensures (rows-near kept), omega (arith, r.rows_refusal-number.ensures, c.if-number-ne0.false)))
+    (kept, (rw o.rows_of-rows.ensures (rows-near kept), omega (arith, r.rows_refusal-number.ensures, c.if-number-ne0.false)))
 
 returns-3 : tie.Need-returns
 returns-3 c =
@@ -79,7 +79,7 @@ returns-3 c =
     let o = r.before in
     let p = o.before.before.before.before in
     let s = p.before in
-    to_z-of_z {w = w64} {z = c.print_rows.result} (search rules) ∙ c.print_rows.ensures ∙ ap (lit_in p.prepare-route.result.joins) o.rows_of_lem.ensures
+    to_z-of_z {w = w64} {z = c.print_rows.result} (search rules) ∙ c.print_rows.ensures ∙ ap (lit_in p.prepare-route.result.joins) o.rows_of-rows.ensures
     ∙ pixels-drawn s.requires s.args.closed s.args.coordinates.now s.args.width (free o.before.before) (omega (arith, room r, c.before.if-number-ne0.false))
 
 pub print_route_spec : {M : Type 1} → statement M

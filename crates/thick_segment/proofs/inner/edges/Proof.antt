@@ -5,7 +5,7 @@ use Rattle.thick_segment.proofs.inner.edges.Tie as tie
 
 returns : tie.Need-returns
 unfolding edges_of
-returns c = simp (c.before.before.before.Line-of.ensures, c.line_of-left.ensures)
+returns c = simp (c.line_of-right.ensures, c.line_of-left.ensures)
 
 pub edges_spec : {M : Type 1} → statement M
 edges_spec = tie.close (tie.spec (λ c κs. search rules) (λ c κs. search rules) returns)

@@ -24,14 +24,14 @@ loop-holds c = (search rules, (search rules, (search rules, refl)))
 meet-requires : tie.Need-meet-met-requires invariant-loop decreases-loop
 meet-requires c κs =
     let l = c.before.before.before in
-    rw c.line_at_lem.ensures (l.before.requires.1.near l.loop-i.i)
+    rw c.line_at.ensures (l.before.requires.1.near l.loop-i.i)
 
 loop-again : tie.Need-loop-i-preserved invariant-loop decreases-loop
 loop-again c =
     let l = c.before.before.before.before in
     let rows = l.before.args.lines in
     let more = met-more l.before.args.span rows l.loop-i.i (omega arith) in
-    let step = c.meet-met.ensures ∙ ap (met l.loop-i.met) c.before.line_at_lem.ensures ∙ ap (λ t. met t (line_at (get_or rows l.loop-i.i []))) l.loop-i.invariant.1.1.1 in
+    let step = c.meet-met.ensures ∙ ap (met l.loop-i.met) c.before.line_at.ensures ∙ ap (λ t. met t (line_at (get_or rows l.loop-i.i []))) l.loop-i.invariant.1.1.1 in
     (search rules, (search rules, (search rules, step ∙ sym more)))
 
 returns : tie.Need-returns invariant-loop decreases-loop

@@ -35,7 +35,7 @@ returns-2 c =
     rw row (sym (span-beside b.args.segment b.args.row (inr ((lt_iff _ _).0 (rw (row, last c.before) at c.if-greater-row.true)))))
 
 abbrev begin : tie.After-perimeter_count → tie.Start
-begin c = c.before.before.before.before.before.before.before.before.before.before
+begin c = c.before.before.before.before.before.before.before.before.before.before.before.before.before.before
 
 scan-requires : tie.Need-scan-requires
 unfolding perimeter_of count_of
@@ -49,7 +49,7 @@ unfolding span_on perimeter_of count_of
 returns-3 c =
     let b = begin c.before in
     let s = b.args.segment in
-    cc (met-rows 6 (new_span b.args.row) (drawn s) (drawn-most s), to_z-of_z b.fits.row)
+    cc (met-rows 6 (new_span b.args.row) (drawn s) (drawn-most s), to_z-of_z b.ranges.row)
 
 pub span_spec : {M : Type 1} → statement M
 span_spec =
