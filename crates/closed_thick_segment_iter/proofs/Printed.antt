@@ -90,7 +90,7 @@ module _ (cs : List ℤ) (w : ℤ) (o : Offset) where
       let two : suc 1 + more ≡ suc (suc 0 + more) = omega arith in
       let rest = at_last ps (suc k) h e more in
       rw (two, past_is ps (suc (suc k)) h, eq-eqb (suc (suc k)) n e, segment-to k (suc k) (on k (omega (arith, e))), p, q, sym j)
-      (ap (λ ss. between (at k) (at (suc k)) ∷ ss) (rw (p, q) at rest))
+      (ap (λ ss. between (at k) (at (suc k)) ∷ ss) rest)
 
   -- one window more
   by-window : (left k : ℕ) → k + suc (suc (suc left)) ≡ n → Answers (list_from point (suc k) (suc (suc left))) (suc k) (suc left) → Answers (list_from point k (suc (suc (suc left)))) k (suc (suc left))

@@ -82,7 +82,7 @@ module _ (cs : List ℤ) (w : ℤ) where
       let on : is_end (at (suc k)).kind ≡ false = ap (λ i. is_end i.kind) j ∙ bend-on (point k) (point (suc k)) (point (suc (suc k))) w in
       let two : suc 1 + more ≡ suc (suc 0 + more) = omega arith in
       let rest = at_last ps (suc k) h e more in
-      rw (two, past_is w _ _ ps (iterator ps k) h, on, segment-is cs w k) (ap (λ ss. record { start = at k; end = at (suc k) } ∷ ss) (rw (p, q, sym (last-join cs w (suc k) e)) (rw (p, q) at rest)))
+      rw (two, past_is w _ _ ps (iterator ps k) h, on, segment-is cs w k) (ap (λ ss. record { start = at k; end = at (suc k) } ∷ ss) (rw (p, q, sym (last-join cs w (suc k) e)) rest))
 
   -- one window more
   by-window : (left k : ℕ) → k + suc (suc (suc (suc left))) ≡ n → Answers (list_from point (suc (suc k)) (suc (suc left))) (suc k) (suc left) → Answers (list_from point (suc k) (suc (suc (suc left)))) k (suc (suc left))

@@ -30,7 +30,7 @@ returns c =
 returns-2 : tie.Need-returns
 returns-2 c =
     let r = c.before in
-    let e = r.before.before.before.before in
+    let e = r.before.before.before in
     let p = e.before.before in
     let s = p.before.before in
     let a = s.args in
@@ -44,4 +44,4 @@ returns-2 c =
 pub row_spec : {M : Type 1} → statement M
 row_spec =
     tie.close
-    (tie.spec (λ c κs. search rules) (λ c κs. rw c.panel.ensures roomy) (λ c κs. search rules) returns (λ c κs. ((free c.before.before.before).kept, lit≤ tt)) (λ c. search rules) returns-2)
+    (tie.spec (λ c κs. search rules) (λ c κs. rw c.panel.ensures roomy) (λ c κs. search rules) returns (λ c κs. ((free c.before.before).kept, lit≤ tt)) (λ c. search rules) returns-2)

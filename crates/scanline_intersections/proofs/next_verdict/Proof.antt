@@ -24,9 +24,9 @@ use Rattle.scanline_intersections.proofs.next_verdict.Statement.{statement}
 use Rattle.scanline_intersections.proofs.next_verdict.Tie as tie
 
 -- `try_take` tells the refusal of its span
-taken : (s : Span) → (try_take_answer corner_limit s).refusal-number ≡ span_refusal corner_limit s
+taken : (s : Span) → (try_take_answer corner_limit s).refusal ≡ span_refusal corner_limit s
 unfolding try_take_answer
-taken s = refusal-told {A = Taken} (λ r. r.refusal-number) (span_refusal corner_limit s) refl refl
+taken s = refusal-told {A = Taken} (λ r. r.refusal) (span_refusal corner_limit s) refl refl
 
 told : (c : tie.After-refusal-number) → let a = c.before.before.args in route_refusal point_limit false a.coordinates.now a.walk.width ≡ c.refusal-number.result
 told c = cc (to_z-of_z {w = w64} {z = c.before.before.args.walk.width} (search rules))
@@ -64,7 +64,7 @@ joins-told c e =
 returns-2 : tie.Need-returns-then-near-join_count
 returns-2 c =
     let t = c.before.before in
-    let number = ap (λ r. r.refusal-number) c.try_take-refusal.ensures ∙ taken _ in
+    let number = ap (λ r. r.refusal) c.try_take-refusal.ensures ∙ taken _ in
     rw (joins-told t.before ((all_near t.before).0 t.if-near-join_count.true), ← number)
 
 returns-3 : tie.Need-returns

@@ -20,7 +20,7 @@ told c = cc (to_z-of_z c.before.ranges.width)
 accepted : (c : tie.Else-number-ne0) → let a = c.before.before.args in Accepted a.limits.point a.closed a.coordinates.now a.width
 accepted c = let a = c.before.before.args in (accepted-exactly a.limits.point a.closed a.coordinates.now a.width).0 (sym (told c.before) ∙ c.if-number-ne0.false)
 
-made : (c : tie.After-joins_of-joins) → let a = c.before.before.before.args in c.Joins-of.result ≡ joins_of a.limits.corner a.closed a.coordinates.now a.width
+made : (c : tie.After-joins_of-joins) → let a = c.before.before.before.args in c.joins_of-joins.result ≡ joins_of a.limits.corner a.closed a.coordinates.now a.width
 made c = cc (to_z-of_z c.before.before.before.ranges.width)
 
 returns : tie.Need-returns-then-number-ne0

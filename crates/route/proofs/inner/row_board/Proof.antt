@@ -73,9 +73,9 @@ module _ (c : tie.In-loop-k invariant-loop decreases-loop) where
   inside = ends-in-array began.before.requires inner
 
   -- the spans that are left begin with that of the place
-  left : let n = began.segments-of.result in
+  left : let n = began.segments_of-n.result in
       offer_all c.before.loop-k.board (lit-at began place ∷ list_from (lit-at began) (place + 1) (n - (place + 1))) ≡ board_on (route began) (to_z w64 (of_z w64 began.before.args.row))
-  left = ap (offer_all c.before.loop-k.board) (sym (list-next (lit-at began) began.segments-of.result place c.loop-test.true)) ∙ c.before.loop-k.invariant.1.1.1
+  left = ap (offer_all c.before.loop-k.board) (sym (list-next (lit-at began) began.segments_of-n.result place c.loop-k-test.true)) ∙ c.before.loop-k.invariant.1.1.1
 
 end-place-requires : tie.Need-end_place-next-requires invariant-loop decreases-loop
 end-place-requires c κs = (place_inside (route (began c)).closed (inner c)).0
@@ -134,11 +134,11 @@ module _ (c : tie.Joined-is_empty invariant-loop decreases-loop) where
 
   goes : Goes c.if-is_empty.board
   goes =
-      ⊎_elim (λ w. subst Goes (sym w.1) (kept (sym empty ∙ w.0.taken)))
+      ⊎_elim (λ w. subst Goes (sym w.board-is) (kept (sym empty ∙ w.if-is_empty.true)))
       (λ w.
-      let a = w.1.ensures ∙ ap (added held) (lit c.before.before) in
-      subst Goes (sym (w.5 ∙ ap (λ a. a.board) a)) (taken (sym (ap (λ a. a.refusal) a) ∙ w.3.left)))
-      c.if-is_empty.branch
+      let a = w.offer_sound-answer.ensures ∙ ap (added held) (lit c.before.before) in
+      subst Goes (sym (w.board-is ∙ ap (λ a. a.board) a)) (taken (sym (ap (λ a. a.refusal) a) ∙ w.if-answer-ne0.false)))
+      c.if-is_empty.branch-raw
 
 loop-again : tie.Need-loop-k-preserved invariant-loop decreases-loop
 loop-again c = (omega arith, ((turn c).before.loop-k.invariant.1.0, ((goes c).few, (goes c).on)))

@@ -34,7 +34,7 @@ returns c =
 
 list-sound-requires : tie.Need-list_sound-listed-requires
 list-sound-requires c κs =
-    let b = c.before.before.before.before.before in
+    let b = c.before.before.before.before in
     let s = b.before.before.before in
     let near = true-within s.args.limit s.args.row (sym (inside b.before.before) ∙ b.before.if-within.true) in
     subst (λ a. Sound line_limit a.board) (sym (drawn b)) (drawn-sound s.requires.0 (record { bound = omega (arith, near.bound, s.requires.1) }))
@@ -42,9 +42,9 @@ list-sound-requires c κs =
 returns-2 : tie.Need-returns-then-within
 returns-2 c =
     let l = c.before.before in
-    let b = l.before.before.before.before.before.before in
+    let b = l.before.before.before.before.before in
     let a = b.before.before.before.args in
-    listed-on a.limit a.route a.row a.out.now (number b ∙ l.before.before.before.before.if-answer-ne0.false) (ap (λ d. d.board) (drawn b)) l.list_sound-listed.ensures.0 (to_z-of_z {w = w64} {z = l.list_sound-listed.result.total} (search rules)) l.list_sound-listed.ensures.1
+    listed-on a.limit a.route a.row a.out.now (number b ∙ l.before.before.before.if-answer-ne0.false) (ap (λ d. d.board) (drawn b)) l.list_sound-listed.ensures.0 (to_z-of_z {w = w64} {z = l.list_sound-listed.result.total} (search rules)) l.list_sound-listed.ensures.1
 
 returns-3 : tie.Need-returns
 unfolding refusal_on

@@ -48,7 +48,7 @@ module _ (c : tie.In-loop-k invariant-loop decreases-loop) where
   left : let n = c.before.before.segments_of-segments.result in
       with_all (with_rows c.before.loop-k.rows (drawn_in route place)) (list_from (drawn_in route) (place + 1) (n - (place + 1))) ≡ rows_in route
   unfolding with_all
-  left = ap (with_all c.before.loop-k.rows) (sym (list-next (drawn_in route) c.before.before.segments_of-segments.result place c.loop-test.true)) ∙ c.before.loop-k.invariant.1.1
+  left = ap (with_all c.before.loop-k.rows) (sym (list-next (drawn_in route) c.before.before.segments_of-segments.result place c.loop-k-test.true)) ∙ c.before.loop-k.invariant.1.1
 
 drawn-rows-requires : tie.Need-drawn_rows-requires invariant-loop decreases-loop
 drawn-rows-requires c κs =
