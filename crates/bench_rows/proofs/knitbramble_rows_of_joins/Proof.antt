@@ -49,7 +49,7 @@ loop-holds c = let a = c.before.before.before.before.before.args in (omega arith
 
 loop-again : tie.Need-loop-i-preserved invariant-loop decreases-loop
 loop-again c =
-    let l = c.before.before.before.before.before.before.before.before in
+    let l = c.before.before.before.before.before.before in
     let e = l.before.before in
     let a = e.before.before.before.before.args in
     let y = get_or a.rows.now l.loop-i.i (pos 0) in
@@ -86,7 +86,7 @@ knitbramble_rows_of_joins_spec =
     loop-holds
     (λ c. search rules)
     (λ c. search rules)
-    (λ c κs. ((free c.before.before.before.before.before.before.before.before).kept, lit≤ tt))
+    (λ c κs. ((free c.before.before.before.before.before.before).kept, lit≤ tt))
     (λ c. search rules)
     (λ c. omega arith)
     loop-again
