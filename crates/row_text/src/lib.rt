@@ -8,16 +8,18 @@ ghost use Rattle.row_text.specs.Pixels.{file_pixels};
 pub mod inner; // inner.rt: the lines of a file that is not refused
 
 use inner::print_routes;
-use libc::STDIN_FILENO;
 use route_file::route_count;
 use shapes::limits::panel;
 use writing::{say, say_number, say_refused};
+
+/// The descriptor of standard input.
+const STDIN: i32 = 0;
 
 /// Prints of standard input what `print_file` prints of a file. A file has at most 65,535 bytes: one more is enough to see that it
 /// has too many.
 pub fn print_input() {
     let mut file = [0u8; 65536];
-    let n = io::read_full(STDIN_FILENO, &mut file);
+    let n = io::read_full(STDIN, &mut file);
     print_file(&file[..n]);
 }
 

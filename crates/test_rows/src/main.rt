@@ -2,12 +2,14 @@
 //! for the empty file. What it must write stands in `stdout`, and comes from two other calculations of the same rules
 //! (oracle/README.md).
 #![tactic(auto)]
-use libc::STDIN_FILENO;
 use test_text::read_bytes;
+
+/// The descriptor of standard input.
+const STDIN: i32 = 0;
 
 fn main() {
     let mut lines = [0u8; 524288];
-    let n = io::read_full(STDIN_FILENO, &mut lines);
+    let n = io::read_full(STDIN, &mut lines);
     print_all(&lines[..n]);
 }
 

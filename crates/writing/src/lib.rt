@@ -1,12 +1,14 @@
 //! Words and numbers written to standard output. No contract can say what is written.
 #![tactic(auto)]
-use libc::STDOUT_FILENO;
 use shapes::refusals::CORNER;
 use whole::inner::size;
 
+/// The descriptor of standard output.
+const STDOUT: i32 = 1;
+
 /// Writes words.
 pub fn say(words: &[u8]) {
-    io::write_all(STDOUT_FILENO, words);
+    io::write_all(STDOUT, words);
 }
 
 /// Writes a number in decimal.
@@ -19,7 +21,7 @@ pub fn say_number(x: i64) {
 
 /// Writes a count in decimal.
 pub fn say_count(n: u64) {
-    io::print_decimal(STDOUT_FILENO, n);
+    io::print_decimal(STDOUT, n);
 }
 
 /// Writes a space and a number.

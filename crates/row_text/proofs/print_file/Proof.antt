@@ -28,7 +28,7 @@ drawn c = cc
 
 returns-2 : tie.Need-returns
 returns-2 c =
-    let p = c.before.before.before.before.before in
+    let p = c.before.before.before.before.before.before.before in
     let e = p.before.before in
     let r = e.before.before in
     to_z-of_z {w = w64} {z = p.print_routes-total.result} (search rules) ∙ drawn p ∙ file-drawn r.before.before.args.file.now r.route_count-counted.ensures e.if-counted-ne0.false panel
@@ -39,14 +39,11 @@ print_file_spec =
     (tie.spec
     (λ c κs. search rules)
     (λ c κs. search rules)
-    (λ c. search rules)
     (λ c κs. search rules)
     returns
     (λ c κs. search rules)
     print-routes-requires
-    (λ c. search rules)
     (λ c κs. search rules)
     (λ c κs. search rules)
-    (λ c. search rules)
     (λ c κs. search rules)
     returns-2)

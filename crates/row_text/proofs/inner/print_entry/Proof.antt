@@ -31,15 +31,15 @@ module _ (c : tie.After-points-count) where
   count = ap (λ r. r.count) c.points-count.ensures.0 ∙ handed-count start.args.k start.requires.0 bytes (replicate 32768 (pos 0)) (length-replicate 32768 (pos 0))
 
   -- and they are its own
-  numbers : take c.points-count.result.count c.points-count.new.1.1.0 ≡ own
+  numbers : take c.points-count.result.count c.points-count.new.out ≡ own
   numbers =
-      ap (λ n. take n c.points-count.new.1.1.0) count ∙ ap (take (length own)) c.points-count.ensures.1 ∙ handed start.args.k start.requires.0 bytes (replicate 32768 (pos 0)) (length-replicate 32768 (pos 0))
+      ap (λ n. take n c.points-count.new.out) count ∙ ap (take (length own)) c.points-count.ensures.1 ∙ handed start.args.k start.requires.0 bytes (replicate 32768 (pos 0)) (length-replicate 32768 (pos 0))
 
   room : c.points-count.result.count < 32769
   room = omega (arith, count, enough start.args.file.now start.args.k start.requires.0 bytes)
 
 array-share-prefix-room : tie.Need-slice_bounds-room-end
-array-share-prefix-room c = let p = c.before in omega (arith, room p, p.points-count.auto.1.1.0, length-replicate 32768 (pos 0))
+array-share-prefix-room c = let p = c.before in omega (arith, room p, p.points-count.auto.out, length-replicate 32768 (pos 0))
 
 returns : tie.Need-returns
 unfolding entry_pixels

@@ -32,7 +32,7 @@ module _ (c : tie.After-count_of-n invariant-loop decreases-loop) where
 loop-holds : tie.Need-loop-k-init invariant-loop decreases-loop
 unfolding all_pixels
 loop-holds c =
-    let o = c.before.before.before.before.before in
+    let o = c.before.before.before.before.before.before.before in
     let n = o.count_of-n.ensures in
     (omega arith, (n, (record { bound = omega arith }, sum-begun (pixels o) o.count_of-n.result ∙ ap (sum_from (pixels o) 0) n)))
 
@@ -40,7 +40,7 @@ loop-holds c =
 
 module _ (c : tie.In-loop-k invariant-loop decreases-loop) where
   abbrev counted : tie.After-count_of-n invariant-loop decreases-loop
-  counted = c.before.before.before.before.before.before.before
+  counted = c.before.before.before.before.before.before.before.before.before
 
   few : c.before.loop-k.k < 16
   few = omega (arith, c.loop-k-test.true, c.before.loop-k.invariant.1.0, counted.before.before.requires.0.few)
@@ -71,7 +71,7 @@ loop-again c =
 returns : tie.Need-returns invariant-loop decreases-loop
 returns c =
     let l = c.before.before in
-    let o = l.before.before.before.before.before.before in
+    let o = l.before.before.before.before.before.before.before.before in
     to_z-of_z {w = w64} {z = l.loop-k.sum.total} (search rules) ∙ sum_done (pixels o) l.loop-k.sum.total _ o.count_of-n.result l.loop-k.k l.loop-k.invariant.1.1.1 c.before.loop-k-test.false
 
 pub print_routes_spec : {M : Type 1} → statement M
@@ -81,10 +81,8 @@ print_routes_spec =
     invariant-loop
     decreases-loop
     (λ c κs. c.before.requires.0.header)
-    (λ c. search rules)
     (λ c κs. search rules)
     (λ c κs. search rules)
-    (λ c. search rules)
     (λ c κs. search rules)
     loop-holds
     (λ c κs. (counted c).before.before.requires)
