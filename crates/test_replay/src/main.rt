@@ -1,6 +1,8 @@
 //! Answers the stored lists of questions, one line for each line. What it must write stands in `stdout`; none of it comes from
 //! this repository's code (oracle/README.md).
 #![tactic(auto)]
+ghost use Rattle.std.specs.Prelude.{◌≡◌, ◌≤◌, length, IfOk};
+
 mod boards; // boards.rt: histories of boards
 mod files; // files.rt: route files
 mod joins; // joins.rt: joins, and the lines of a join handed in
@@ -10,30 +12,58 @@ mod segments; // segments.rt: segments between two joins, and spans
 mod strokes; // strokes.rt: extents, parallels and thick points
 mod walks; // walks.rt: walks along a route, and its merged spans
 
+use std::fs::File;
+use std::io::{Read, Result};
+
 use test_numbers::{byte_at, skip_past};
 use test_text::after;
 use writing::say;
 
-fn main() {
-    answer_list(b"crossings");
-    answer_list(b"strokes");
-    answer_list(b"joins");
-    answer_list(b"segments");
-    answer_list(b"walks");
-    answer_list(b"fields");
-    replay_boards(b"boards");
+fn main(rt: HostRuntime) -> Result<()> {
+    answer_list(&rt, "crossings")?;
+    answer_list(&rt, "strokes")?;
+    answer_list(&rt, "joins")?;
+    answer_list(&rt, "segments")?;
+    answer_list(&rt, "walks")?;
+    answer_list(&rt, "fields")?;
+    replay_boards(&rt, "boards")
 }
 
-fn answer_list(name: &[u8]) {
-    let mut questions = [0u8; 524288];
-    let n = io::read_full(os::open_read(name), &mut questions);
+/// Room for a list of questions. The contract gives the length alone, which lending it needs.
+fn room() -> [u8; 524288]
+    ensures { 524288 ≡ length result }
+{
+    [0; 524288]
+}
+
+fn answer_list(rt: &HostRuntime, name: &str) -> Result<()> {
+    let mut questions = room();
+    let n = read_file(rt, name, &mut questions)?;
     answer_all(&questions[..n]);
+    Ok(())
 }
 
-fn replay_boards(name: &[u8]) {
-    let mut events = [0u8; 65536];
-    let n = io::read_full(os::open_read(name), &mut events);
+fn replay_boards(rt: &HostRuntime, name: &str) -> Result<()> {
+    let mut events = room();
+    let n = read_file(rt, name, &mut events[..65536])?;
     boards::replay(&events[..n]);
+    Ok(())
+}
+
+/// Reads a file to the front of `bytes`, until they are full or the file ends, and answers how many it put there.
+fn read_file(rt: &HostRuntime, name: &str, bytes: &mut [u8]) -> Result<usize>
+    ensures { IfOk result (λ n. n ≤ length bytes.new) }
+{
+    let mut file = File::open(rt, name)?;
+    let mut done = 0;
+    while done < bytes.len() {
+        let n = file.read(&mut bytes[done..])?;
+        if n == 0 {
+            break;
+        }
+        done += n;
+    }
+    Ok(done)
 }
 
 fn answer_all(questions: &[u8]) {

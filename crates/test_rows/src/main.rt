@@ -2,15 +2,24 @@
 //! for the empty file. What it must write stands in `stdout`, and comes from two other calculations of the same rules
 //! (oracle/README.md).
 #![tactic(auto)]
+ghost use Rattle.std.specs.Prelude.{◌≡◌, length};
+
 use test_text::read_bytes;
 
 /// The descriptor of standard input.
 const STDIN: i32 = 0;
 
 fn main() {
-    let mut lines = [0u8; 524288];
+    let mut lines = room();
     let n = io::read_full(STDIN, &mut lines);
     print_all(&lines[..n]);
+}
+
+/// Room for all lines. The contract gives the length alone, which lending it needs.
+fn room() -> [u8; 524288]
+    ensures { 524288 ≡ length result }
+{
+    [0; 524288]
 }
 
 fn print_all(lines: &[u8]) {

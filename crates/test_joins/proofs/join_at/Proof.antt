@@ -17,7 +17,7 @@ position c = cc
 
 -- its value is what the call is given
 held : (c : tie.After-number_at-position) → to_z w64 (of_z w64 c.number_at-position.result.value) ≡ c.number_at-position.result.value
-held c = to_z-of_z {w = w64} {z = c.number_at-position.result.value} (search (rules, c.number_at-position.type-inv.1))
+held c = to_z-of_z {w = w64} {z = c.number_at-position.result.value} (search (rules, c.number_at-position.type_inv.1))
 
 returns : tie.Need-returns
 unfolding join_at

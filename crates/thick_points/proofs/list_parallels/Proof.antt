@@ -20,4 +20,4 @@ returns c =
     (each _ 4 (length ps) (lit< tt) (numbers-length ps), refl)
 
 pub list_parallels_spec : {M : Type 1} → statement M
-list_parallels_spec = tie.close (tie.spec (λ c κs. search rules) returns)
+list_parallels_spec = tie.close (tie.spec (λ c κs. search rules) (λ c. search rules) returns)

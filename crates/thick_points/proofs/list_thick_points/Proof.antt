@@ -19,4 +19,4 @@ returns c =
     (each _ 2 (length qs) (lit< tt) (points-length qs), refl)
 
 pub list_thick_points_spec : {M : Type 1} → statement M
-list_thick_points_spec = tie.close (tie.spec (λ c κs. search rules) returns)
+list_thick_points_spec = tie.close (tie.spec (λ c κs. search rules) (λ c. search rules) returns)
