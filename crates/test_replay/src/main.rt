@@ -44,8 +44,8 @@ fn answer_list(rt: &HostRuntime, name: &str) -> Result<()> {
 }
 
 fn replay_boards(rt: &HostRuntime, name: &str) -> Result<()> {
-    let mut events = room();
-    let n = read_file(rt, name, &mut events[..65536])?;
+    let mut events = [0u8; 65536];
+    let n = read_file(rt, name, &mut events)?;
     boards::replay(&events[..n]);
     Ok(())
 }
