@@ -1,5 +1,6 @@
 //! Rows of a route drawn one after the other, for C to call: what the benchmark counts (docs/SPEED.md).
 #![tactic(auto)]
+
 ghost use Rattle.std.specs.Prelude.{◌≡◌, length};
 ghost use Rattle.shapes.specs.Limits.{panel as panel_limits};
 ghost use Rattle.bench_rows.specs.Drawn.{last_columns, rows_to};

@@ -1,5 +1,6 @@
 //! A row's runs, which never lie: each lit column is in one run, and no run touches another.
 #![tactic(auto)]
+
 ghost use Rattle.std.specs.Prelude.{◌≡◌, length};
 ghost use Rattle.shapes.specs.Limits.{corner_limit};
 ghost use Rattle.board.specs.Boards.{begun, offered, cleared, listed, listed_to};

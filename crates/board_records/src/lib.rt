@@ -1,5 +1,6 @@
 //! A board's runs as records: the second listing of a board.
 #![tactic(auto)]
+
 ghost use Rattle.std.specs.Prelude.{◌≡◌, length};
 ghost use Rattle.shapes.specs.Limits.{corner_limit};
 ghost use Rattle.board_records.specs.Records.{both_listed, numbers_to, records_to};

@@ -1,6 +1,7 @@
 //! A walk along a line, a pixel at a time (01's rules W2 to W4): its parameters, its place, and what a step answers.
 //! The steps themselves are in `inner`; there are no entries here.
 #![tactic(auto)]
+
 pub mod inner; // inner.rt: the steps
 
 use shapes::Point;

@@ -1,5 +1,6 @@
 //! A route's points in a list of numbers, x and y of each in turn, and what such a list is refused with.
 #![tactic(auto)]
+
 ghost use Rattle.std.specs.Prelude.{◌≡◌};
 ghost use Rattle.shapes.specs.Limits.{point_limit};
 ghost use Rattle.coordinates.specs.Points.{point_count};

@@ -1,5 +1,6 @@
 //! The left and the right edge of a thick line (01's rule W5).
 #![tactic(auto)]
+
 pub mod inner; // inner.rt: the edges of a line that is known to be within its limits
 
 ghost use Rattle.std.specs.Prelude.{◌≡◌};

@@ -1,5 +1,6 @@
 //! Where two lines cross, and whether they run so nearly alike that rounding spoils the crossing: `intersection_params.rs`.
 #![tactic(auto)]
+
 ghost use Rattle.std.specs.Prelude.{◌≡◌};
 ghost use Rattle.shapes.specs.Limits.{crossing_limit};
 ghost use Rattle.intersection_params.specs.Crossing.{are_lines_near, crossing_values, crossing_answer, nearly_answer};

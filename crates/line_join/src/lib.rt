@@ -1,5 +1,6 @@
 //! How two thick lines are joined: `line_join.rs`.
 #![tactic(auto)]
+
 ghost use Rattle.std.specs.Prelude.{◌≡◌};
 ghost use Rattle.shapes.specs.Limits.{corner_limit, panel};
 ghost use Rattle.line_join.specs.Answers.{join_values, filler_values, caps_values, made_of, start_answer, end_answer, points_answer};

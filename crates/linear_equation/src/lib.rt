@@ -1,5 +1,6 @@
 //! The equation of a line, how far a point lies from it, and on which side: the integer half of `linear_equation.rs`.
 #![tactic(auto)]
+
 ghost use Rattle.std.specs.Prelude.{◌≡◌};
 ghost use Rattle.shapes.specs.Limits.{crossing_limit};
 ghost use Rattle.linear_equation.specs.Equation.{are_inside, equation_answer, distance_answer, side_answer};

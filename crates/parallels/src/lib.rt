@@ -1,6 +1,7 @@
 //! The parallels of a thick line (the Rust's ParallelsIterator, of line/thick_points.rs).
 //! The steps are in `inner`; there are no entries here: `thick_points` lists the parallels.
 #![tactic(auto)]
+
 pub mod inner; // inner.rt: the parallels, one at a time
 
 use bresenham::{Bresenham, Parameters};

@@ -1,5 +1,6 @@
 //! A route's rows: the columns that its segments light.
 #![tactic(auto)]
+
 ghost use Rattle.std.specs.Prelude.{◌≡◌, length};
 ghost use Rattle.shapes.specs.Limits.{panel as panel_limits};
 ghost use Rattle.route.specs.Answers.{rows_answer, whole_answer, row_answer, row_to};

@@ -1,5 +1,6 @@
 //! The route file: whether its form is right, and the points, the width and the closed flag of each of its routes.
 #![tactic(auto)]
+
 ghost use Rattle.std.specs.Prelude.{◌≡◌, length};
 ghost use Rattle.route_file.specs.Answers.{counted, described, pointed, pointed_to};
 

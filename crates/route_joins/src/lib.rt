@@ -1,6 +1,7 @@
 //! The joins and the segments of a route, each by its place, and what a step of a walk answers. The walks and a route's rows stand
 //! on it; it has no entries of its own.
 #![tactic(auto)]
+
 pub mod inner; // inner.rt: joins and segments by their place, and the step of every walk
 
 use thick_segment::Segment;

@@ -1,6 +1,7 @@
 //! What the program `rows` prints of a route file. No contract can say what is written; but who prints knows how many pixels the
 //! runs have that are printed, and for that there is one.
 #![tactic(auto)]
+
 ghost use Rattle.std.specs.Prelude.{◌≡◌};
 ghost use Rattle.shapes.specs.Limits.{panel as panel_limits};
 ghost use Rattle.row_text.specs.Pixels.{file_pixels};

@@ -1,6 +1,7 @@
 //! Spans of a row: a new span, one made longer by a column or by the points of a line, two joined, and one handed out.
 //! `scanline.rs`, and 01's rule W6.
 #![tactic(auto)]
+
 ghost use Rattle.std.specs.Prelude.{◌≡◌};
 ghost use Rattle.shapes.specs.Limits.{corner_limit};
 ghost use Rattle.scanline.specs.Answers.{row_refusal, span_refusal, extend_refusal, meet_refusal, join_refusal};

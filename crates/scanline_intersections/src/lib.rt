@@ -1,6 +1,7 @@
 //! The polyline's walk along one row: its segments, and the spans of the segments on the row, merged while they overlap or are
 //! adjacent. `polyline/scanline_intersections.rs`, with 01's rule W6.
 #![tactic(auto)]
+
 ghost use Rattle.std.specs.Prelude.{◌≡◌};
 ghost use Rattle.route_joins.specs.Steps.{step_values};
 ghost use Rattle.shapes.specs.Limits.{panel as panel_limits};

@@ -1,5 +1,6 @@
 //! Points, lines and sides, and the numbers that bound the work.
 #![tactic(auto)]
+
 pub mod inner; // inner.rt: what is worked out of them
 pub mod limits; // limits.rt: 01's table of numbers
 pub mod refusals; // refusals.rt: 01's table of refusals, with K6's 12

@@ -3,6 +3,7 @@
 //! joins that are too far where corners may go no farther than 45: within 4,095 no accepted route is known to have one. Here are the
 //! questions alone; what must be written stands in `stdout`, and comes from another calculation (oracle/README.md).
 #![tactic(auto)]
+
 ghost use Rattle.std.specs.Prelude.{◌≤◌, ◌<◌, length};
 ghost use Rattle.shapes.specs.Limits.{Roomy};
 

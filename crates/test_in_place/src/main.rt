@@ -2,6 +2,7 @@
 //! that it leaves its walk at: of a segment the right edge, the left edge, the start and end of its span on one row, and of each of its two joins the origins and the position. The
 //! spans of a route go to a board of that row, whose runs are then listed to twelve numbers and to four records. The last three walks are refused.
 #![tactic(auto)]
+
 mod owners; // owners.rt: owners that lend what is worked on in place
 
 use board::{Board, Run};

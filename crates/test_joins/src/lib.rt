@@ -1,5 +1,6 @@
 //! Joins in the questions and answers of the programs that replay stored questions.
 #![tactic(auto)]
+
 ghost use Rattle.std.specs.Prelude.{◌≡◌};
 ghost use Rattle.line_join.specs.Join.{corners_of};
 ghost use Rattle.test_joins.specs.Joins.{kind_of, join_at};

@@ -1,5 +1,6 @@
 //! Reading a text: a whole number at a place, and the place after a byte.
 #![tactic(auto)]
+
 ghost use Rattle.std.specs.Prelude.{◌≡◌, get_or};
 ghost use Rattle.test_numbers.specs.Numbers.{is_digit, digits_at, number_at};
 ghost use Rattle.test_numbers.specs.Lines.{skip_past};

@@ -1,6 +1,7 @@
 //! Answers the stored lists of questions, one line for each line. What it must write stands in `stdout`; none of it comes from
 //! this repository's code (oracle/README.md).
 #![tactic(auto)]
+
 ghost use Rattle.std.specs.Prelude.{◌≡◌, ◌≤◌, length, IfOk};
 
 mod boards; // boards.rt: histories of boards
@@ -14,7 +15,6 @@ mod walks; // walks.rt: walks along a route, and its merged spans
 
 use std::fs::File;
 use std::io::{Read, Result};
-
 use test_numbers::{byte_at, skip_past};
 use test_text::after;
 use writing::say;

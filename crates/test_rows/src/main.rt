@@ -2,6 +2,7 @@
 //! for the empty file. What it must write stands in `stdout`, and comes from two other calculations of the same rules
 //! (oracle/README.md).
 #![tactic(auto)]
+
 ghost use Rattle.std.specs.Prelude.{◌≡◌, length};
 
 use test_text::read_bytes;

@@ -1,6 +1,7 @@
 //! Questions and answers as text, for the programs that replay stored questions: sizes, points and lines are read out of a
 //! question, and lists, points and lines are written to standard output. No contract can say what is written.
 #![tactic(auto)]
+
 ghost use Rattle.std.specs.Prelude.{◌≡◌, ◌≤◌, length};
 ghost use Rattle.test_text.specs.Questions.{next_place, point_at, line_at, offset_at};
 

@@ -1,5 +1,6 @@
 //! The points of a thick line (the Rust's ThickPoints, of line/thick_points.rs), and its parallels, as numbers in a lent list.
 #![tactic(auto)]
+
 pub mod inner; // inner.rt: what is told of each parallel, and the one listing of both entries
 
 ghost use Rattle.std.specs.Prelude.{◌≡◌, length};

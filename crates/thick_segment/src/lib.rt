@@ -2,6 +2,7 @@
 //! rows, and its span on a row. `thick_segment.rs`. The position that comes with 5 is that of the join with a corner beyond 4,095,
 //! of the start join if both have one.
 #![tactic(auto)]
+
 ghost use Rattle.std.specs.Prelude.{◌≡◌};
 ghost use Rattle.shapes.specs.Limits.{corner_limit};
 ghost use Rattle.thick_segment.specs.Answers.{skeleton_answer, edges_answer, box_answer, perimeter_answer, count_answer, drawn_rows_answer, segment_refusal, span_answer};

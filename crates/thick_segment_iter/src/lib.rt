@@ -1,5 +1,6 @@
 //! The walk over the segments of an open route: `thick_segment_iter.rs`. The list of coordinates is handed to each step.
 #![tactic(auto)]
+
 ghost use Rattle.std.specs.Prelude.{◌≡◌};
 ghost use Rattle.route_joins.specs.Steps.{step_values};
 ghost use Rattle.shapes.specs.Limits.{point_limit, panel as panel_limits};

@@ -1,5 +1,6 @@
 //! The walks stepped in place by their owner: each is lent, and the list of coordinates is handed in beside it.
 #![tactic(auto)]
+
 ghost use Rattle.std.specs.Prelude.{◌≡◌};
 ghost use Rattle.route_joins.specs.Steps.{step_values};
 ghost use Rattle.shapes.specs.Limits.{panel};

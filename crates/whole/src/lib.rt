@@ -1,5 +1,6 @@
 //! Whole numbers, with no shapes in them: what the port's rules say of numbers alone.
 #![tactic(auto)]
+
 pub mod inner;
 
 /// How a division of whole numbers comes out.

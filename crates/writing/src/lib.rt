@@ -1,5 +1,6 @@
 //! Words and numbers written to standard output. No contract can say what is written.
 #![tactic(auto)]
+
 use shapes::refusals::CORNER;
 use whole::inner::size;
 
