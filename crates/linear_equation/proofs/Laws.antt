@@ -3,9 +3,8 @@
 use mathlib.Core.Path.{◌≡◌, refl, sym, ◌∙◌}
 use mathlib.Core.Logic.{◌↔◌}
 use mathlib.Core.Bool.{true, false}
-use Prim.Native.Nat.{◌≤◌}
 use Prim.Native.Nat.{ℕ}
-use lib.IntN.{ℤ, pos}
+use lib.IntN.{pos}
 use lib.Signed.{◌≤ℤ◌, ≤ℤ_refl}
 use lib.Dec.{lit<, lit≤}
 use Rattle.whole.proofs.Linear.{linear}

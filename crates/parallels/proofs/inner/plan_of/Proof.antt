@@ -2,7 +2,6 @@ use mathlib.Core.Path.{sym, ◌∙◌, ap}
 use borrow.Author.Rules.{rules}
 use lib.Dec.{lit≤}
 use Rattle.whole.proofs.Machine.{hold}
-use Rattle.shapes.specs.Shape.{delta}
 use Rattle.shapes.proofs.Laws.{line-near-more, near-delta}
 use Rattle.parallels.specs.Parallels.{plan_along, plan_of, aimed}
 use Rattle.parallels.proofs.inner.plan_of.Statement.{statement}
