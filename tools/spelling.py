@@ -54,6 +54,8 @@ def main():
     words = {w: snake(w) for t in sources.values() for w in WORD.findall(t) if "_" not in w}
     fields = {f: f.replace("-", "_") for p, t in sources.items() if "/specs/" in p for f in FIELD.findall(t)}
 
+    if not words:
+        sys.exit("nothing to turn")
     together = sorted(n for n in set(words.values()) if sum(v == n for v in words.values()) > 1)
     if together:
         sys.exit("fall together: " + ", ".join(together))
