@@ -1,11 +1,10 @@
 -- Rows of a route drawn one after the other to the front of one list, each as `route::row` draws it.
 use Rattle.std.specs.Prelude.{Bool, List, [], ◌∷◌, ℕ, ℤ}
 use Rattle.shapes.specs.declared.limits.Limits.{Limits}
-use Rattle.route.specs.declared.Listing.{Listing}
-use Rattle.route.specs.Answers.{no_listing, row_answer, row_to}
+use Rattle.route.specs.Answers.{ListingValues, no_listing, row_answer, row_to}
 
 -- the answer of the last row, where the list has `n` numbers; and what the list holds after all
-unfoldable pub last_of : (ℤ → ℕ → Listing) → ℕ → Listing → List ℤ → Listing
+unfoldable pub last_of : (ℤ → ℕ → ListingValues) → ℕ → ListingValues → List ℤ → ListingValues
 last_of row n last [] = last
 last_of row n last (y ∷ ys) = last_of row n (row y n) ys
 

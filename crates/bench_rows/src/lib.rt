@@ -3,11 +3,26 @@
 
 ghost use Rattle.std.specs.Prelude.{◌≡◌, length};
 ghost use Rattle.shapes.specs.Limits.{panel as panel_limits};
+ghost use Rattle.route.specs.Answers.{listing_values};
 ghost use Rattle.bench_rows.specs.Drawn.{last_columns, rows_to};
 
-use route::Listing;
-use route::inner::{prepare, refused, row_of};
+use route::Listed;
+use route::inner::{prepare, row_of};
 use shapes::limits::{CORNER, panel};
+use shapes::refusals::Refusal;
+
+/// No row was drawn yet.
+const NONE: Listed = Listed { count: 0, total: 0 };
+
+/// The number of a row's columns; 0 if the row is refused.
+fn columns(listed: Result<Listed, Refusal>) -> i64
+    ensures { result ≡ (listing_values listed).total }
+{
+    match listed {
+        Ok(listed) => listed.total,
+        Err(_) => 0,
+    }
+}
 
 /// Draws each of `rows` by the entry `route::row`, which works out the joins each time, to the front of `out`. Answers the number of
 /// the last row's columns; 0 if there are no rows, or the last one is refused.
@@ -19,15 +34,14 @@ pub extern "C" fn knitbramble_rows_by_entry(
     rows: &[i64],
     out: &mut [i64],
 ) -> i64
-    ensures { (result ≡ last_columns panel_limits closed coordinates.now width rows.now (length out.old)) × (out.new ≡ rows_to panel_limits closed coordinates.now width rows.now out.old) }
+    ensures columns { result ≡ last_columns panel_limits closed coordinates.now width rows.now (length out.old) }
+    ensures written { out.new ≡ rows_to panel_limits closed coordinates.now width rows.now out.old }
 {
-    let mut last: Listing = refused(0, 0);
-    let mut i: usize = 0;
-    while i < rows.len() {
-        last = route::row(coordinates, width, closed, rows[i], &mut *out);
-        i += 1;
+    let mut last = Ok(NONE);
+    for row in rows {
+        last = route::row(coordinates, width, closed, *row, out);
     }
-    last.total
+    columns(last)
 }
 
 /// The same by joins that are worked out once for all the rows.
@@ -39,17 +53,15 @@ pub extern "C" fn knitbramble_rows_of_joins(
     rows: &[i64],
     out: &mut [i64],
 ) -> i64
-    ensures { (result ≡ last_columns panel_limits closed coordinates.now width rows.now (length out.old)) × (out.new ≡ rows_to panel_limits closed coordinates.now width rows.now out.old) }
+    ensures columns { result ≡ last_columns panel_limits closed coordinates.now width rows.now (length out.old) }
+    ensures written { out.new ≡ rows_to panel_limits closed coordinates.now width rows.now out.old }
 {
-    let route = prepare(coordinates, width, closed, panel());
-    if route.refusal != 0 {
+    let Ok(route) = prepare(coordinates, width, closed, panel()) else {
         return 0;
+    };
+    let mut last = Ok(NONE);
+    for row in rows {
+        last = row_of(&route, *row, CORNER, out);
     }
-    let mut last: Listing = refused(0, 0);
-    let mut i: usize = 0;
-    while i < rows.len() {
-        last = row_of(route.joins, rows[i], CORNER, &mut *out);
-        i += 1;
-    }
-    last.total
+    columns(last)
 }

@@ -1,4 +1,4 @@
--- The first n of an array, taken one by one; and an array that a loop fills from the front, one store a turn. Assumes nothing.
+-- A list taken one by one, and an array that a loop fills from the front, one store a turn. Assumes nothing.
 use mathlib.Core.Path.{◌≡◌, sym, ap, ◌∙◌}
 use mathlib.Core.List.{List, [], ◌∷◌, ◌++◌, append_assoc, map}
 use Prim.Native.Nat.{ℕ, suc, ◌+◌, ◌-◌, ◌≤◌, ◌<◌}
@@ -6,22 +6,20 @@ use native.Mathlib.Nat.{add-zero, zero-add}
 use native.Mathlib.Numerals.{add-one}
 use native.Mathlib.Omega.{arith}
 use lib.ListN.{length, get_or, take, drop, set, replicate, length-map, length-append, length-take, length-drop, drop_of_length-le}
-use lib.Seq.{take-length, take-suc, set_at, length-take-le, drop-cons, get_or-take, get_or-drop, drop-drop, paste-suc}
+use lib.Seq.{take-length, take-suc, set_at, length-take-le, drop-cons, get_or-drop, drop-drop, paste-suc}
 
 -- a field that is an array of structs: its relation stands at the list of the structs' rows
 pub length-mapped : {A B : Type 0} (f : A → B) (l : List A) (n : ℕ) → length (map f l) ≡ n → length l ≡ n
 length-mapped f l n e = sym (length-map l f) ∙ e
 
--- ---- the first n of an array, from place i on
+-- ---- a list from place i on
 
-module _ {ℓ} {A : Type ℓ} (xs : List A) (n i : ℕ) where
-  pub rest_more : (d : A) → i < n → n ≤ length xs → drop i (take n xs) ≡ get_or xs i d ∷ drop (i + 1) (take n xs)
-  rest_more d h k =
-      let long = length-take-le n xs k in
-      drop-cons (take n xs) i d (omega arith) ∙ rw (get_or-take n xs i d h, add-one)
+module _ {ℓ} {A : Type ℓ} (xs : List A) (i : ℕ) where
+  pub left_more : (d : A) → i < length xs → drop i xs ≡ get_or xs i d ∷ drop (i + 1) xs
+  left_more d h = rw add-one (drop-cons xs i d h)
 
-  pub rest-none : n ≤ i → drop i (take n xs) ≡ []
-  rest-none h = drop_of_length-le (take n xs) {i = i} (omega (arith, length-take n xs))
+  pub left-none : length xs ≤ i → drop i xs ≡ []
+  left-none h = drop_of_length-le xs {i = i} h
 
 -- ---- an array of n filled from the front with a list s: its first j places hold those of s, the others z
 

@@ -5,6 +5,7 @@ use native.Mathlib.Omega.{arith}
 use lib.IntN.{pos, negsuc, neg_ℤ, ◌+ℤ◌, ◌-ℤ◌}
 use mir.Syntax.{w32, w64}
 use mir.Val.{Fits, SFits, to_z, of_z}
+use mir.Facts.{to_z-of_z}
 use Rattle.whole.proofs.Linear.{linear, sum, diff, opp}
 use Rattle.whole.proofs.Machine.{Hold, hold, literal, fits-add, hold-add, fits_neg, hold-neg, fits_sub, hold-sub}
 
@@ -28,3 +29,5 @@ module _ {n : ℕ} (small : Fits w32 n) where
 
   pub edge-is : to_z w64 (of_z w64 (to_z w64 (of_z w64 (pos 0 -ℤ to_z w64 n)) -ℤ pos 1)) ≡ negsuc n
   edge-is = (hold-sub (hold-neg held tt) (literal 1 tt) tt).is ∙ omega (linear, opp (pos n), diff (neg_ℤ (pos n)) (pos 1))
+
+pub ruleset past = (past_fits, past_is, to_z-of_z)

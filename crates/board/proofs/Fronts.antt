@@ -1,34 +1,30 @@
 -- An array of runs that a loop fills from the front, and the runs that are left of a board. Assumes nothing.
-use mathlib.Core.Path.{◌≡◌, refl, ap, ◌∙◌}
+use mathlib.Core.Path.{◌≡◌, ap}
 use mathlib.Core.Bool.{true, false}
-use mathlib.Core.List.{List, [], ◌∷◌, ◌++◌}
-use Prim.Native.Nat.{ℕ, ◌+◌, ◌-◌, ◌≤◌, ◌<◌, zero-le}
+use mathlib.Core.List.{List, [], ◌∷◌, ◌++◌, append_assoc}
+use Prim.Native.Nat.{ℕ, ◌+◌, ◌-◌, ◌≤◌, ◌<◌}
 use native.Mathlib.Omega.{arith}
-use lib.ListN.{length, get_or, take, drop, set, replicate, length-drop, take-append-drop}
-use lib.Seq.{take_at, length-take-le}
+use lib.ListN.{length, take, drop, set, replicate, length-take, length-drop, take-append-drop}
+use lib.Seq.{take_at, drop_at, length-take-le}
 use lib.Signed.{lt_z}
+use Rattle.std.proofs.lemmas.List.{drop-replicate}
 use Rattle.shapes.specs.Limits.{board_runs}
 use Rattle.board.specs.declared.Run.{Run}
 use Rattle.board.specs.declared.Board.{Board}
 use Rattle.board.specs.Runs.{no_run, joined, with_run}
 use Rattle.board.specs.Boards.{live, padded}
 use Rattle.board.specs.Fronts.{Filling}
-use Rattle.board.proofs.Arrays.{rest_more, rest-none, fill-turn, fill-rest, fill_done, at_place}
+use Rattle.board.proofs.Arrays.{fill-turn, fill-rest, at_place}
 
--- ---- a board's runs from place i on
-
-module _ (b : Board) (i : ℕ) where
-  pub live_more : i < b.count → b.count ≤ length b.runs → drop i (live b) ≡ get_or b.runs i no_run ∷ drop (i + 1) (live b)
-  unfolding live
-  live_more = rest_more b.runs b.count i no_run
-
-  pub live-none : b.count ≤ i → drop i (live b) ≡ []
-  unfolding live
-  live-none = rest-none b.runs b.count i
+-- ---- how many runs a board has
 
 pub live-long : (b : Board) → b.count ≤ length b.runs → length (live b) ≡ b.count
 unfolding live
 live-long b = length-take-le b.count b.runs
+
+pub live-few : (b : Board) → length (live b) ≤ b.count
+unfolding live
+live-few b = omega (arith, length-take b.count b.runs)
 
 -- ---- what one more run makes of them
 
@@ -52,9 +48,6 @@ module _ (r : Run) {ps : List Run} where
 
 -- ---- an array filled from the front
 
-pub filling-none : (all : List Run) → Filling (replicate board_runs no_run) 0 all all
-filling-none all = record { array = refl; place = zero-le; left = refl }
-
 module _ {runs rest all : List Run} {count : ℕ} where
   pub filling-turn : {r : Run} → Filling runs count (r ∷ rest) all → count < board_runs → Filling (set runs count r) (count + 1) rest all
   filling-turn {r} f h =
@@ -74,8 +67,12 @@ module _ {runs rest all : List Run} {count : ℕ} where
       let front = take_at (take count all) (replicate (board_runs - count) no_run) count (length-take-le count all f.place) in
       rw (f.array, front, ← f.left) (take-append-drop count all)
 
-pub filling-done : {runs all : List Run} {count : ℕ} → Filling runs count [] all → (count ≡ length all) × (runs ≡ padded all)
+-- k runs are left, which are put behind those that stand there
+pub filling-last : {runs rest all : List Run} {count k : ℕ} → Filling runs count rest all → k ≡ length rest
+    → take count runs ++ (rest ++ drop k (drop count runs)) ≡ padded all
 unfolding padded
-filling-done {all} {count} f =
-    let e : count ≡ length all = omega (arith, filling-length f) in
-    (e, f.array ∙ fill_done board_runs no_run all count e)
+filling-last {runs} {rest} {all} {count} {k} f e =
+    let long = length-take-le count all f.place in
+    let free : drop count runs ≡ replicate (board_runs - count) no_run = rw f.array (drop_at (take count all) (replicate (board_runs - count) no_run) count long) in
+    let size : board_runs - count - k ≡ board_runs - length all = omega (arith, filling-length f) in
+    rw (free, drop-replicate k (board_runs - count) no_run, size, ← append_assoc, filling-all f)

@@ -3,7 +3,7 @@ use mathlib.Core.Path.{◌≡◌, refl}
 use mathlib.Core.Bool.{true, ◌&&◌}
 use mathlib.Core.List.{List, [], ◌∷◌}
 use mathlib.Core.Logic.{◌↔◌}
-use Prim.Native.Nat.{ℕ, zero, suc, ◌≤◌, ◌<◌}
+use Prim.Native.Nat.{ℕ, zero, suc, ◌+◌, ◌≤◌, ◌<◌}
 use native.Mathlib.Omega.{arith}
 use lib.Dec.{leb}
 use lib.IntN.{ℤ, pos}
@@ -15,7 +15,7 @@ use Rattle.whole.proofs.Laws.{within-iff}
 use Rattle.whole.proofs.Linear.{abs-le}
 use Rattle.whole.proofs.Orders.{ordered}
 use Rattle.whole.proofs.Tests.{and-iff, lt_iff, le_iff, leb-iff}
-use Rattle.shapes.specs.Limits.{board_runs}
+use Rattle.shapes.specs.Limits.{board_runs, line_limit}
 use Rattle.board.specs.declared.Run.{Run}
 use Rattle.board.specs.declared.Board.{Board}
 use Rattle.board.specs.Runs.{Follows, Ascending, none, then, edge, follows, is_ascending}
@@ -74,3 +74,7 @@ inside-at (then {r} f a) low zero d h =
       end_near = record { bound = abs-le r.end (omega ordered) (omega ordered) };
     }
 inside-at (then f a) low (suc i) d h = inside-at a (omega ordered) i d (omega arith)
+
+-- the largest length of a run
+abbrev pub longest : ℕ
+longest = suc line_limit + suc line_limit

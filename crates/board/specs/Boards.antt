@@ -1,13 +1,13 @@
 -- 01, "The board" and the numbers 6, 7 and 8: what each entry answers, for rows and columns from -k to k.
-use Rattle.std.specs.Prelude.{Bool, cond, ◌&&◌, List, [], ◌++◌, ℕ, ◌-◌, ◌*◌, ◌≤◌, leb, ℤ, pos, length, take, drop, replicate}
+use Rattle.std.specs.Prelude.{Bool, cond, ◌&&◌, List, [], ◌++◌, ℕ, ◌-◌, ◌*◌, ◌≤◌, leb, ℤ, pos, length, take, drop, replicate, Result, Ok, Err}
 use Rattle.whole.specs.Number.{Within, is_within, eq_z}
 use Rattle.shapes.specs.Limits.{board_runs}
-use Rattle.shapes.specs.Refusals.{row_refused, column_refused, room_refused}
+use Rattle.shapes.specs.declared.refusals.Refusal.{Refusal}
+use Rattle.shapes.specs.Refusals.{row_refused, column_refused, room_refused, number_of, refusal_in}
 use Rattle.shapes.specs.Spans.{is_empty, is_span_sound}
 use Rattle.shapes.specs.declared.Span.{Span}
 use Rattle.board.specs.declared.Run.{Run}
 use Rattle.board.specs.declared.Board.{Board}
-use Rattle.board.specs.declared.Answer.{Answer}
 use Rattle.board.specs.declared.Listed.{Listed}
 use Rattle.board.specs.Runs.{run_of, no_run, edge, Ascending, is_ascending, with_run, total, flat}
 
@@ -36,7 +36,16 @@ pub record Sound (k : ℕ) (b : Board) : Type 0 where
 unfoldable pub is_sound : ℕ → Board → Bool
 is_sound k b = leb b.count board_runs && (is_within k b.row && is_ascending k (edge k) (live b))
 
--- ---- answers
+-- ---- answers as numbers and values
+
+pub record Answer : Type 0 where
+  pub refusal : ℕ
+  pub board : Board
+
+pub record ListedValues : Type 0 where
+  pub refusal : ℕ
+  pub count : ℕ
+  pub total : ℤ
 
 -- a board, with a refusal's number or 0
 abbrev pub answer_of : ℕ → Board → Answer
@@ -46,8 +55,21 @@ answer_of n b = record { refusal = n; board = b }
 abbrev pub no_board : Board
 no_board = record { row = pos 0; count = 0; runs = replicate board_runs no_run }
 
-abbrev pub not_listed : ℕ → Listed
+abbrev pub not_listed : ℕ → ListedValues
 not_listed n = record { refusal = n; count = 0; total = pos 0 }
+
+-- a fresh board, or why there is none
+abbrev pub fresh_values : Result Board Refusal → Answer
+fresh_values (Ok b) = answer_of 0 b
+fresh_values (Err r) = answer_of (number_of r) no_board
+
+-- what a change of a lent board answers, and the board afterwards
+abbrev pub answer_values : {A : Type 0} → Result A Refusal → Board → Answer
+answer_values r b = answer_of (refusal_in r) b
+
+abbrev pub listed_values : Result Listed Refusal → ListedValues
+listed_values (Ok l) = record { refusal = 0; count = l.count; total = l.total }
+listed_values (Err r) = not_listed (number_of r)
 
 -- ---- a fresh board
 
@@ -90,12 +112,12 @@ clear_refusal k b = (cleared k b).refusal
 -- ---- a board listed to a lent list of numbers
 
 -- "A listing gives the runs and their total"
-abbrev pub listing : Board → Listed
+abbrev pub listing : Board → ListedValues
 listing b = record { refusal = 0; count = length (live b); total = total (live b) }
 
 -- The answer for a board that no test refuses: "8 if the list has fewer than two numbers, or one record, for each run": here the
 -- numbers; n is the list's length.
-unfoldable pub told : Board → ℕ → Listed
+unfoldable pub told : Board → ℕ → ListedValues
 told b n = cond (leb (2 * length (live b)) n) (listing b) (not_listed room_refused)
 
 -- the runs' numbers, and then what was there: "entries beyond the runs keep their content"
@@ -107,7 +129,7 @@ unfoldable pub told_to : Board → List ℤ → List ℤ
 told_to b out = cond (leb (2 * length (live b)) (length out)) (over out (live b)) out
 
 -- 6 before that
-unfoldable pub listed : ℕ → Board → ℕ → Listed
+unfoldable pub listed : ℕ → Board → ℕ → ListedValues
 listed k b n = cond (is_sound k b) (told b n) (not_listed row_refused)
 
 abbrev pub list_refusal : ℕ → Board → ℕ → ℕ

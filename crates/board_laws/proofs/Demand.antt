@@ -23,9 +23,8 @@ use Rattle.shapes.specs.Spans.{span_of, is_empty, SpanSound}
 use Rattle.shapes.specs.declared.Span.{Span}
 use Rattle.board.specs.declared.Run.{Run}
 use Rattle.board.specs.declared.Board.{Board}
-use Rattle.board.specs.declared.Answer.{Answer}
 use Rattle.board.specs.Runs.{lit, total, Follows, Ascending, none, then, edge, with_run, flat}
-use Rattle.board.specs.Boards.{live, board_of, Sound, is_sound, begun, added, offered, offer_refusal, cleared, told, over, told_to, listed, listed_to, list_refusal}
+use Rattle.board.specs.Boards.{Answer, live, board_of, Sound, is_sound, begun, added, offered, offer_refusal, cleared, told, over, told_to, listed, listed_to, list_refusal}
 use Rattle.board.proofs.Listing.{flat-length}
 use Rattle.board.proofs.Sound.{sound-iff, ascending-from}
 use Rattle.board_laws.specs.Offers.{with_span, Proper, Offerable}

@@ -9,7 +9,7 @@ use native.Mathlib.Omega.{arith}
 use borrow.Author.Tests.{leb-true, leb-false}
 use lib.Dec.{leb}
 use lib.IntN.{ℤ, pos, ◌-ℤ◌}
-use lib.ListN.{length, replicate, length-take}
+use lib.ListN.{length, replicate}
 use lib.Seq.{take-append_seam}
 use Rattle.whole.specs.Number.{Within, eq_z}
 use Rattle.whole.specs.Columns.{between}
@@ -24,9 +24,9 @@ use Rattle.shapes.specs.declared.Span.{Span}
 use Rattle.shapes.proofs.Columns.{covers-some, covers-first, covers-last, sound-exactly}
 use Rattle.board.specs.declared.Run.{Run}
 use Rattle.board.specs.declared.Board.{Board}
-use Rattle.board.specs.declared.Answer.{Answer}
 use Rattle.board.specs.Runs.{no_run, lit, Follows, Ascending, edge, with_run}
-use Rattle.board.specs.Boards.{live, padded, board_of, Sound, is_sound, answer_of, span_run, added, offered, offer_refusal}
+use Rattle.board.specs.Boards.{Answer, live, padded, board_of, Sound, is_sound, answer_of, span_run, added, offered, offer_refusal}
+use Rattle.board.proofs.Fronts.{live-few}
 use Rattle.board.proofs.Sound.{sound-iff}
 use Rattle.board_laws.specs.Offers.{with_span, Offerable}
 use Rattle.board_laws.proofs.Union.{lit-with, ascending-with}
@@ -115,10 +115,6 @@ module _ {k : ℕ} {b : Board} {s : Span} (sound : Sound k b) (inside : SpanSoun
       added-cases b s (λ a. Sound k a.board) (λ _. sound)
       (λ some few. sound-of sound.row_near few (ascending-with (span_run s) (live b) (span-follows inside some) sound.ascending))
       (λ _ _. sound)
-
-pub live-few : (b : Board) → length (live b) ≤ b.count
-unfolding live
-live-few b = omega (arith, length-take b.count b.runs)
 
 module _ (b : Board) (s : Span) (few : b.count ≤ board_runs) where
   -- 8 exactly when the union needs more than 32 runs

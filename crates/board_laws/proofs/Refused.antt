@@ -14,8 +14,7 @@ use Rattle.whole.proofs.Laws.{within-iff}
 use Rattle.whole.proofs.Tests.{Chosen, chosen, chosen-exactly, good-first, good-later, bad-first, never, leb-iff, either}
 use Rattle.shapes.specs.declared.Span.{Span}
 use Rattle.board.specs.declared.Board.{Board}
-use Rattle.board.specs.declared.Listed.{Listed}
-use Rattle.board.specs.Boards.{live, board_of, Sound, is_sound, answer_of, no_board, not_listed, begun, fresh_refusal, offered, offer_refusal, cleared, clear_refusal, listing, told, over, told_to, listed, list_refusal, listed_to}
+use Rattle.board.specs.Boards.{ListedValues, live, board_of, Sound, is_sound, answer_of, no_board, not_listed, begun, fresh_refusal, offered, offer_refusal, cleared, clear_refusal, listing, told, over, told_to, listed, list_refusal, listed_to}
 use Rattle.board.proofs.Sound.{sound-iff}
 use Rattle.board_laws.proofs.Offers.{added-either, offered-cases}
 
@@ -57,7 +56,7 @@ module _ (k : ℕ) (b : Board) where
 -- ---- a listing, to one list or two: 6 where the board is not sound, 8 where there is no room
 
 module _ (b : Board) where
-  abbrev pub answer : Bool → Bool → Listed
+  abbrev pub answer : Bool → Bool → ListedValues
   answer sound room = cond sound (cond room (listing b) (not_listed 8)) (not_listed 6)
 
   number_by : (t u : Bool) → (answer t u).refusal ≡ cond t (cond u 0 8) 6

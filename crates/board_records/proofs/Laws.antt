@@ -1,22 +1,22 @@
 -- Laws of the second listing: when it is refused, and what it answers and writes. Assumes nothing.
-use mathlib.Core.Path.{◌≡◌, refl, sym, ap, ◌∙◌}
-use mathlib.Core.Bool.{Bool, true, false, cond}
+use mathlib.Core.Path.{◌≡◌, sym, ap, ◌∙◌}
+use mathlib.Core.Bool.{true}
 use mathlib.Core.List.{List, ◌++◌}
 use mathlib.Core.Logic.{◌↔◌, ◌≢◌}
-use Prim.Native.Nat.{ℕ, ◌*◌, ◌≤◌, zero-le}
-use native.Mathlib.Omega.{arith}
+use Prim.Native.Nat.{ℕ, ◌*◌, ◌≤◌}
 use lib.Dec.{leb}
 use lib.IntN.{ℤ}
-use lib.ListN.{length, take, drop, take-append-drop}
+use lib.ListN.{length, take, drop}
 use lib.Seq.{take-append_seam}
 use Rattle.whole.proofs.Tests.{and-iff, leb-iff}
-use Rattle.shapes.specs.Limits.{board_runs}
+use Rattle.std.specs.Prelude.{Ok, Err}
+use Rattle.shapes.specs.declared.refusals.Refusal.{Refusal}
+use Rattle.shapes.proofs.Numbers.{number-some}
 use Rattle.board.specs.declared.Run.{Run}
 use Rattle.board.specs.declared.Board.{Board}
-use Rattle.board.specs.Boards.{live, Sound, is_sound, not_listed, listing, over}
-use Rattle.board.proofs.Sound.{sound-iff}
-use Rattle.board_laws.proofs.Offers.{live-few}
-use Rattle.board_laws.proofs.Refused.{answer, accepted-by, refused-by, written-by, kept_by, zero-by, six-by, eight-by}
+use Rattle.board.specs.declared.Listed.{Listed}
+use Rattle.board.specs.Boards.{ListedValues, listed_values, live, Sound, is_sound, not_listed, listing, over}
+use Rattle.board_laws.proofs.Refused.{accepted-by, refused-by, written-by, kept_by, zero-by, six-by, eight-by}
 use Rattle.board_records.specs.Records.{has_room, both_refusal, both_listed, numbers_to, records_over, records_to}
 
 -- ---- refused exactly when
@@ -75,31 +75,22 @@ module _ (k : ℕ) (b : Board) (n : ℕ) (records : List Run) where
   unfolding both_listed records_to
   refused-records = kept_by b (records_over records (live b)) records (is_sound k b) (has_room b n (length records))
 
--- ---- as many runs as the answer counts are copied: none where it is refused
-
-take-live : (b : Board) → take (length (live b)) b.runs ≡ live b
-unfolding live
-take-live b =
-    let first = take b.count b.runs in
-    ap (take (length first)) (sym (take-append-drop b.count b.runs)) ∙ take-append_seam first (drop b.count b.runs)
+-- ---- what an answer says of the second list: there is room for the runs, and they are written; refused, it is as it was
 
 module _ (k : ℕ) (b : Board) (n : ℕ) (records : List Run) where
-  room_by : (t u : Bool) → is_sound k b ≡ t → has_room b n (length records) ≡ u → ((answer b t u).count ≤ board_runs) × ((answer b t u).count ≤ length records)
-  room_by true true e f = (omega (arith, live-few b, ((sound-iff k b).0 e).few), ((room-iff b n (length records)).0 f).1)
-  room_by true false e f = (zero-le, zero-le)
-  room_by false u e f = (zero-le, zero-le)
+  module _ {l : Listed} (e : listed_values (Ok l) ≡ both_listed k b n (length records)) where
+    accepted : both_refusal k b n (length records) ≡ 0
+    accepted = sym (ap (λ (v : ListedValues). v.refusal) e)
 
-  copied-by : (t u : Bool) → records_over records (take (answer b t u).count b.runs) ≡ cond t (cond u (records_over records (live b)) records) records
-  unfolding records_over
-  copied-by true true = rw (take-live b)
-  copied-by true false = refl
-  copied-by false u = refl
+    pub ok-sound : Sound k b
+    ok-sound = ((zero-exactly k b n (length records)).0 accepted).0
 
-  -- there is room for them
-  pub room-copied : ((both_listed k b n (length records)).count ≤ board_runs) × ((both_listed k b n (length records)).count ≤ length records)
-  unfolding both_listed
-  room-copied = room_by (is_sound k b) (has_room b n (length records)) refl refl
+    pub ok-room : length (live b) ≤ length records
+    ok-room = ((zero-exactly k b n (length records)).0 accepted).1.1
 
-  pub records-copied : records_over records (take (both_listed k b n (length records)).count b.runs) ≡ records_to k b n records
-  unfolding both_listed records_to
-  records-copied = copied-by (is_sound k b) (has_room b n (length records))
+    pub ok-records : records_over records (live b) ≡ records_to k b n records
+    unfolding records_over
+    ok-records = sym (accepted-records k b n records accepted)
+
+  pub err-records : (r : Refusal) → listed_values (Err r) ≡ both_listed k b n (length records) → records ≡ records_to k b n records
+  err-records r e = sym (refused-records k b n records (λ z. number-some r (ap (λ (v : ListedValues). v.refusal) e ∙ z)))

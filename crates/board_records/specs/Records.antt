@@ -3,15 +3,14 @@ use Rattle.std.specs.Prelude.{Bool, cond, ◌&&◌, List, ◌++◌, ℕ, ◌*◌
 use Rattle.shapes.specs.Refusals.{row_refused, room_refused}
 use Rattle.board.specs.declared.Run.{Run}
 use Rattle.board.specs.declared.Board.{Board}
-use Rattle.board.specs.declared.Listed.{Listed}
-use Rattle.board.specs.Boards.{live, is_sound, not_listed, listing, over}
+use Rattle.board.specs.Boards.{ListedValues, live, is_sound, not_listed, listing, over}
 
 -- two numbers and one record for each run; n and m are the lengths of the two lists
 abbrev pub has_room : Board → ℕ → ℕ → Bool
 has_room b n m = leb (2 * length (live b)) n && leb (length (live b)) m
 
 -- 6 for the board, then "8 if the list has fewer than two numbers, or one record, for each run"
-unfoldable pub both_listed : ℕ → Board → ℕ → ℕ → Listed
+unfoldable pub both_listed : ℕ → Board → ℕ → ℕ → ListedValues
 both_listed k b n m = cond (is_sound k b) (cond (has_room b n m) (listing b) (not_listed room_refused)) (not_listed row_refused)
 
 abbrev pub both_refusal : ℕ → Board → ℕ → ℕ → ℕ

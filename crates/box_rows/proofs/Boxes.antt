@@ -30,9 +30,8 @@ use Rattle.coordinates.proofs.Places.{before-inside, before-after}
 use Rattle.route_joins.specs.Joins.{join_at, join_count, join_on, end_place, segment_at, segment_of, segment_count}
 use Rattle.route_joins.proofs.Near.{place_inside, joins-exactly, several-by}
 use Rattle.route_joins.proofs.Open.{first-join, last-join}
-use Rattle.route.specs.declared.RowRange.{RowRange}
 use Rattle.route.specs.Joined.{joins_of}
-use Rattle.route.specs.Rows.{no_rows, ends, with_all}
+use Rattle.route.specs.Rows.{RowRange, no_rows, ends, with_all}
 use Rattle.route.specs.Answers.{draw_refusal, rows_answer}
 use Rattle.route.proofs.Bounds.{Bounds, bounds, bounds-least}
 use Rattle.route.proofs.AllRows.{all-refusal, all-bend, rows-bounds, rows-none-of, rows-refusal}

@@ -13,7 +13,7 @@ use Rattle.shapes.specs.Shape.{line_of, Near}
 use Rattle.shapes.proofs.Laws.{line-of-near}
 use Rattle.intersection_params.specs.declared.Intersection.{Intersection}
 use Rattle.intersection_params.specs.declared.Intersection.TheVariants.{At, Colinear}
-use Rattle.extents.specs.declared.Edges.{Edges}
+use Rattle.extents.specs.Sides.{Edges}
 use Rattle.extents.specs.Edges.{extents_of}
 use Rattle.extents.proofs.Laws.{edges-at-zero}
 use Rattle.extents.proofs.One.{edges-at-one}

@@ -6,8 +6,7 @@ use Rattle.thick_segment.specs.declared.Rows.{Rows}
 use Rattle.thick_segment.specs.Segments.{is_skeleton, bounding_box}
 use Rattle.thick_segment.specs.Rows.{box_rows}
 use Rattle.route_joins.specs.Joins.{segment_at, segment_count}
-use Rattle.route.specs.declared.RowRange.{RowRange}
-use Rattle.route.specs.Rows.{no_rows, with_all}
+use Rattle.route.specs.Rows.{RowRange, no_rows, with_all}
 
 -- the rows of a segment's box
 abbrev pub boxed : Bool → List ℤ → ℤ → ℕ → Rows

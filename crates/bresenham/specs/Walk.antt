@@ -7,7 +7,6 @@ use Rattle.shapes.specs.declared.Line.{Line}
 use Rattle.shapes.specs.Shape.{point_of, Near, plus, minus, delta}
 use Rattle.bresenham.specs.declared.Parameters.{Parameters}
 use Rattle.bresenham.specs.declared.Bresenham.{Bresenham}
-use Rattle.bresenham.specs.declared.Drawn.{Drawn}
 use Rattle.bresenham.specs.declared.Met.{Met}
 use Rattle.bresenham.specs.declared.Carried.{Carried}
 
@@ -57,6 +56,11 @@ parameters_of l = parameters_along (delta l)
 -- if error > a, move one along minor and take 2a off
 unfoldable pub turned : Parameters → Bresenham → Bresenham
 turned p b = cond (lt_z p.threshold b.error) (place_of (plus b.point p.minor) (b.error -ℤ p.loss)) b
+
+-- the point that a plain step hands out, and the place after it
+pub record Drawn : Type 0 where
+  pub point : Point
+  pub state : Bresenham
 
 -- hand out the point; move one along major and add 2b
 unfoldable pub handed : Parameters → Bresenham → Drawn

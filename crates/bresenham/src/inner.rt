@@ -4,9 +4,9 @@ ghost use Rattle.shapes.specs.Limits.{line_limit};
 ghost use Rattle.shapes.specs.Shape.{Near, LineNear};
 ghost use Rattle.whole.specs.Number.{Within};
 ghost use Rattle.bresenham.specs.Walk.{step_limit, Sized, Placed, along, parameters_along, parameters_of};
-ghost use Rattle.bresenham.specs.Walk.{direction_of, turned, next_of, met_at, next_all, previous_all, carried_at, increased, decreased};
+ghost use Rattle.bresenham.specs.Walk.{direction_of, turned, next_of, next_all, previous_all, increased, decreased};
 
-use crate::{Bresenham, Carried, Drawn, Met, Parameters};
+use crate::{Bresenham, Carried, Met, Parameters};
 use shapes::inner::{delta, minus, plus};
 use shapes::{Line, Point};
 use whole::inner::magnitude;
@@ -63,18 +63,18 @@ pub fn parameters(line: Line) -> Parameters
 }
 
 /// The plain step along a line: a minor move first where one is due, then the point, then a major move.
-pub fn next(p: Parameters, at: Bresenham) -> Drawn
+pub fn next(p: Parameters, at: &mut Bresenham) -> Point
     requires sized { Sized p }
-    requires placed { Placed at }
-    ensures { result ≡ next_of p at }
+    requires placed { Placed at.old }
+    ensures point { result ≡ (next_of p at.old).point }
+    ensures after { at.new ≡ (next_of p at.old).state }
 {
-    let turned = turn(p, at);
-    let point = turned.point;
-    let state = Bresenham {
-        point: plus(point, p.major),
+    let turned = turn(p, *at);
+    *at = Bresenham {
+        point: plus(turned.point, p.major),
         error: turned.error + p.gain,
     };
-    Drawn { point, state }
+    turned.point
 }
 
 /// The place after a minor move where one is due, else the place itself.
@@ -83,12 +83,10 @@ fn turn(p: Parameters, at: Bresenham) -> Bresenham
     requires placed { Placed at }
     ensures { result ≡ turned p at }
 {
-    let threshold = p.threshold;
-    let error = at.error;
-    if threshold < error {
+    if p.threshold < at.error {
         return Bresenham {
             point: plus(at.point, p.minor),
-            error: error - p.loss,
+            error: at.error - p.loss,
         };
     }
     at
@@ -100,17 +98,23 @@ pub fn next_all(p: Parameters, at: Bresenham) -> Met
     requires placed { Placed at }
     ensures { result ≡ next_all p at }
 {
-    let point = at.point;
-    let error = at.error;
-    let turned = Bresenham {
-        point: plus(point, p.minor),
-        error: error - p.loss,
+    let extra = p.threshold < at.error;
+    let state = if extra {
+        Bresenham {
+            point: plus(at.point, p.minor),
+            error: at.error - p.loss,
+        }
+    } else {
+        Bresenham {
+            point: plus(at.point, p.major),
+            error: at.error + p.gain,
+        }
     };
-    let gone = Bresenham {
-        point: plus(point, p.major),
-        error: error + p.gain,
-    };
-    met(p.threshold < error, point, turned, gone)
+    Met {
+        point: at.point,
+        extra,
+        state,
+    }
 }
 
 /// One step back across a line: Extra and a minor move back where one is due, else Normal and a major move back.
@@ -119,34 +123,22 @@ pub fn previous_all(p: Parameters, at: Bresenham) -> Met
     requires placed { Placed at }
     ensures { result ≡ previous_all p at }
 {
-    let point = at.point;
-    let error = at.error;
-    let turned = Bresenham {
-        point: minus(point, p.minor),
-        error: error + p.loss,
+    let extra = at.error <= -p.threshold;
+    let state = if extra {
+        Bresenham {
+            point: minus(at.point, p.minor),
+            error: at.error + p.loss,
+        }
+    } else {
+        Bresenham {
+            point: minus(at.point, p.major),
+            error: at.error - p.gain,
+        }
     };
-    let gone = Bresenham {
-        point: minus(point, p.major),
-        error: error - p.gain,
-    };
-    met(error <= -p.threshold, point, turned, gone)
-}
-
-/// A point across a line: Extra, with the place after a minor move, where one is due; else Normal, with that after a major move.
-fn met(due: bool, point: Point, turned: Bresenham, gone: Bresenham) -> Met
-    ensures { result ≡ met_at due point turned gone }
-{
-    if due {
-        return Met {
-            point,
-            extra: true,
-            state: turned,
-        };
-    }
     Met {
-        point,
-        extra: false,
-        state: gone,
+        point: at.point,
+        extra,
+        state,
     }
 }
 
@@ -157,7 +149,9 @@ pub fn increase_error(p: Parameters, error: i64) -> Carried
     ensures { result ≡ increased p error }
 {
     let moved = error + p.gain;
-    carried(p.threshold < moved, moved - p.loss, moved)
+    let carry = p.threshold < moved;
+    let error = if carry { moved - p.loss } else { moved };
+    Carried { error, carry }
 }
 
 /// The same, one extra step back.
@@ -167,21 +161,7 @@ pub fn decrease_error(p: Parameters, error: i64) -> Carried
     ensures { result ≡ decreased p error }
 {
     let moved = error - p.gain;
-    carried(moved <= -p.threshold, moved + p.loss, moved)
-}
-
-/// The settled error, and that it carried, where a carry is due; else the moved error.
-fn carried(due: bool, settled: i64, moved: i64) -> Carried
-    ensures { result ≡ carried_at due settled moved }
-{
-    if due {
-        return Carried {
-            error: settled,
-            carry: true,
-        };
-    }
-    Carried {
-        error: moved,
-        carry: false,
-    }
+    let carry = moved <= -p.threshold;
+    let error = if carry { moved + p.loss } else { moved };
+    Carried { error, carry }
 }

@@ -7,7 +7,7 @@ pub mod inner; // inner.rt: the steps
 use shapes::Point;
 
 /// How a walk goes: with a and b the larger and the smaller absolute delta of its line.
-#[derive(Clone, Copy)]
+#[derive(Clone, Copy, Debug, PartialEq, Eq)]
 pub struct Parameters {
     /// One step along the axis of the larger delta; x where they are equal.
     pub major: Point,
@@ -22,21 +22,14 @@ pub struct Parameters {
 }
 
 /// A place of a walk.
-#[derive(Clone, Copy)]
+#[derive(Clone, Copy, Debug, PartialEq, Eq)]
 pub struct Bresenham {
     pub point: Point,
     pub error: i64,
 }
 
-/// A point that a plain step hands out, and the place after it.
-#[derive(Clone, Copy)]
-pub struct Drawn {
-    pub point: Point,
-    pub state: Bresenham,
-}
-
 /// A point that a step across a line meets, Extra or Normal, and the place after it.
-#[derive(Clone, Copy)]
+#[derive(Clone, Copy, Debug, PartialEq, Eq)]
 pub struct Met {
     pub point: Point,
     pub extra: bool,
@@ -44,7 +37,7 @@ pub struct Met {
 }
 
 /// An error after it was moved, and whether it carried.
-#[derive(Clone, Copy)]
+#[derive(Clone, Copy, Debug, PartialEq, Eq)]
 pub struct Carried {
     pub error: i64,
     pub carry: bool,

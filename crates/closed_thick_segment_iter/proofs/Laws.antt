@@ -4,10 +4,15 @@ use mathlib.Core.Logic.{◌↔◌, ◌≢◌}
 use mathlib.Core.Bool.{true}
 use mathlib.Core.List.{List}
 use Prim.Native.Nat.{ℕ, ◌<◌}
-use borrow.Author.Tests.{eq-eqb}
+use native.Mathlib.Omega.{arith}
+use borrow.Author.Tests.{eq-eqb, ne_eqb}
 use lib.Dec.{eqb}
 use lib.IntN.{ℤ, pos}
+use Rattle.std.specs.Prelude.{Ok, Err}
 use Rattle.whole.proofs.Tests.{Chosen, chosen, eqb-iff}
+use Rattle.shapes.specs.declared.refusals.Refusal.{Refusal}
+use Rattle.shapes.specs.Refusals.{number_of}
+use Rattle.shapes.proofs.Numbers.{number-above}
 use Rattle.shapes.specs.declared.limits.Limits.{Limits}
 use Rattle.shapes.specs.declared.Offset.{Offset}
 use Rattle.shapes.specs.declared.Offset.TheVariants.{None}
@@ -21,8 +26,7 @@ use Rattle.route_joins.specs.Joins.{end_place, closed_segment, closed_count}
 use Rattle.route_joins.specs.Steps.{StepTold, SegmentBySegment}
 use Rattle.route_joins.proofs.Walks.{place_kept, route-told, route-in-turn, route-five, route-other, route-step-bend, route-step-positions, route-refused-none, refusal-told}
 use Rattle.closed_thick_segment_iter.specs.declared.Walk.{Walk}
-use Rattle.closed_thick_segment_iter.specs.declared.Started.{Started}
-use Rattle.closed_thick_segment_iter.specs.Walks.{closed_start, closed_step, after_closed}
+use Rattle.closed_thick_segment_iter.specs.Walks.{Started, start_values, closed_start, closed_step, after_closed}
 
 module _ (limits : Limits) (cs : List ℤ) (w : ℤ) (o : Offset) (accepted : Accepted limits.point true cs w) where
   abbrev at : ℕ → Walk
@@ -90,3 +94,16 @@ module _ (k : ℕ) (cs : List ℤ) (w : ℤ) (o : Offset) where
       (record { refusal = route_refusal k true cs w; walk = record { place = 0; width = pos 0; offset = None } })
   unfolding closed_start
   start-chosen = chosen (eqb (route_refusal k true cs w) 0) _ _ (eqb-iff (route_refusal k true cs w) 0)
+
+-- ---- a start as the code comes to it
+
+module _ (k : ℕ) (cs : List ℤ) (w : ℤ) (o : Offset) where
+  pub start-refused : (r : Refusal) → number_of r ≡ route_refusal k true cs w → start_values (Err r) ≡ closed_start k cs w o
+  unfolding closed_start
+  start-refused r n = rw (← n, ne_eqb (number_of r) 0 (λ e. omega (arith, number-above r, e)))
+
+  pub start-begun : {v : ℤ} → v ≡ w → 0 ≡ route_refusal k true cs w → start_values (Ok (record { place = 0; width = v; offset = o })) ≡ closed_start k cs w o
+  unfolding closed_start
+  start-begun e n = rw (← n, e)
+
+pub ruleset begins = (start-refused, start-begun)

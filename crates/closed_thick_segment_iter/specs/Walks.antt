@@ -1,12 +1,23 @@
 -- 01, closed_thick_segment_iter.rs: n segments of n points, one of the three offsets.
-use Rattle.std.specs.Prelude.{true, cond, List, ℕ, eqb, ℤ, pos}
+use Rattle.std.specs.Prelude.{true, cond, List, ℕ, eqb, ℤ, pos, Result, Ok, Err}
+use Rattle.shapes.specs.declared.refusals.Refusal.{Refusal}
+use Rattle.shapes.specs.Refusals.{number_of}
 use Rattle.shapes.specs.declared.limits.Limits.{Limits}
 use Rattle.shapes.specs.declared.Offset.{Offset}
 use Rattle.shapes.specs.declared.Offset.TheVariants.{None}
 use Rattle.coordinates.specs.Refusal.{route_refusal}
 use Rattle.route_joins.specs.Steps.{StepValues, route_step, place_from}
 use Rattle.closed_thick_segment_iter.specs.declared.Walk.{Walk}
-use Rattle.closed_thick_segment_iter.specs.declared.Started.{Started}
+
+-- ---- a start, by its number: a walk at its first segment, or a refusal with zeros
+
+pub record Started : Type 0 where
+  pub refusal : ℕ
+  pub walk : Walk
+
+abbrev pub start_values : Result Walk Refusal → Started
+start_values (Ok walk) = record { refusal = 0; walk = walk }
+start_values (Err r) = record { refusal = number_of r; walk = record { place = 0; width = pos 0; offset = None } }
 
 -- the list's and the width's refusal, k being the points' limit, with 0 for the rest; else a walk at the first segment
 unfoldable pub closed_start : ℕ → List ℤ → ℤ → Offset → Started

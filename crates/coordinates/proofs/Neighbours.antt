@@ -1,20 +1,34 @@
 -- The test for doubled points says what K6 says. Assumes nothing.
 use mathlib.Core.Path.{◌≡◌, refl, sym, ap, ◌∙◌}
 use mathlib.Core.Logic.{◌↔◌, inl, inr}
-use mathlib.Core.Bool.{Bool, true, false}
+use mathlib.Core.Bool.{Bool, true, false, ◌&&◌}
 use mathlib.Core.List.{List}
 use Prim.Native.Nat.{ℕ, ◌+◌, ◌-◌, ◌<◌}
 use native.Mathlib.Omega.{arith}
 use borrow.Author.Tests.{eqb-true, eqb-false}
 use lib.Dec.{eqb}
 use lib.IntN.{ℤ}
+use Rattle.std.specs.Ordering.{int_eq}
+use Rattle.std.proofs.lemmas.Bool.Decides.{same_from_decides, Decides-int_eq}
+use Rattle.whole.proofs.Orders.{eq_z-iff}
+use Rattle.whole.specs.Number.{eq_z}
 use Rattle.whole.specs.Places.{SomePlace}
 use Rattle.whole.proofs.Places.{some-exactly}
 use Rattle.whole.proofs.Tests.{clash}
+use Rattle.shapes.specs.declared.Point.{Point}
+use Rattle.shapes.specs.Shape.{same_point}
 use Rattle.shapes.proofs.Laws.{same-exactly}
 use Rattle.coordinates.specs.Points.{point_at, point_count, place_after, segments_of}
 use Rattle.coordinates.specs.Neighbours.{is_repeated, is_doubled, Repeated, Returned, Doubled}
 use Rattle.coordinates.proofs.Places.{after-inner, after_last}
+
+-- the test for equal points as the machine makes it
+equal-ints : (x y : ℤ) → int_eq x y ≡ eq_z x y
+equal-ints x y = same_from_decides (int_eq x y) (eq_z x y) (Decides-int_eq x y) (eq_z-iff x y)
+
+pub equal_points : (a b : Point) → (int_eq a.x b.x && int_eq a.y b.y) ≡ same_point a b
+unfolding same_point
+equal_points a b = rw (equal-ints a.x b.x, equal-ints a.y b.y)
 
 -- a segment begins at a place of the route, and at each place but the last one does
 pub segment-inside : {n i : ℕ} (closed : Bool) → i < segments_of closed n → i < n

@@ -3,6 +3,7 @@ use mathlib.Core.Path.{◌≡◌, refl, ap, ◌∙◌}
 use mathlib.Core.Bool.{Bool, true, false}
 use lib.IntN.{pos, nat_abs, ◌*ℤ◌, zero-*ℤ, *ℤ-zero}
 use lib.Signed.{lt_z}
+use Rattle.std.specs.Prelude.{Ok}
 use Rattle.whole.specs.Number.{is_within, lesser, greater}
 use Rattle.whole.specs.Rounded.{rounded}
 use Rattle.whole.specs.Divided.{division_of}
@@ -13,6 +14,7 @@ use Rattle.shapes.specs.Shape.{LineNear, point_of, line_of, is_near, is_line_nea
 use Rattle.shapes.specs.Spans.{is_empty, is_span_sound}
 use Rattle.shapes.proofs.Laws.{true-line-near}
 use Rattle.linear_equation.specs.Equation.{equation_of, distance_of, is_on_side, are_inside, side_answer}
+use Rattle.intersection_params.specs.declared.Crossed.{Crossed}
 use Rattle.intersection_params.specs.declared.Crossed.TheVariants.{Colinear}
 use Rattle.intersection_params.specs.Crossing.{cramer_of, solution_of, side_of, drawn_of, divisions_of, found_of, nearly_colinear, are_lines_near, crossing_values, crossing_answer}
 use Rattle.intersection_params.specs.Words.{bend}
@@ -40,10 +42,10 @@ still-second : (b : Line) → bend b still ≡ pos 0
 unfolding determinant delta minus
 still-second b = simp *ℤ-zero
 
-with-any : (b : Line) → LineNear crossing_limit b → (crossing_answer crossing_limit still b ≡ crossing_values Colinear) × (crossing_answer crossing_limit b still ≡ crossing_values Colinear)
+with-any : (b : Line) → LineNear crossing_limit b → (crossing_answer crossing_limit still b ≡ crossing_values (Ok Colinear)) × (crossing_answer crossing_limit b still ≡ crossing_values (Ok Colinear))
 with-any b h = (
-  (crossing-chosen crossing_limit still b).holds (still-near, h) ∙ ap crossing_values ((found-colinear still b).1 (still-first b)),
-  (crossing-chosen crossing_limit b still).holds (h, still-near) ∙ ap crossing_values ((found-colinear b still).1 (still-second b)),
+  (crossing-chosen crossing_limit still b).holds (still-near, h) ∙ ap (λ (r : Crossed). crossing_values (Ok r)) ((found-colinear still b).1 (still-first b)),
+  (crossing-chosen crossing_limit b still).holds (h, still-near) ∙ ap (λ (r : Crossed). crossing_values (Ok r)) ((found-colinear b still).1 (still-second b)),
 )
 
 -- the near-colinear test knows the deltas alone

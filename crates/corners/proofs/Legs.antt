@@ -10,7 +10,7 @@ use Rattle.shapes.specs.declared.Side.TheVariants.{Left, Right}
 use Rattle.shapes.specs.declared.Offset.TheVariants.{None}
 use Rattle.parallels.specs.declared.Parallel.{Parallel}
 use Rattle.shapes.specs.Strokes.{is_thin, stroke_refusal}
-use Rattle.line_join.specs.Answers.{join_values, made_of, join_answer, points_answer}
+use Rattle.line_join.specs.Answers.{join_values, if_near, made_of, join_answer, points_answer}
 use Rattle.line_join.specs.Miter.{miter_limit, reaches}
 use Rattle.line_join.specs.Caps.{is_corners_near, is_join_near}
 use Rattle.line_join.specs.Origins.{origin_of}
@@ -65,5 +65,5 @@ unfolding seen lasts closed extents_of bent turn_of next_parallel same_point aim
 second-edges = rw second-parallels
 
 pub legs-of-216 : Holds legs_of216
-unfolding Holds legs_of216 join_values made_of join_answer points_answer is_thin stroke_refusal miter_limit reaches is_corners_near is_join_near meet origin_of divisions_of division_of overlapping bent_at bent_of start_of join_of cramer_of solution_of side_of drawn_of crossing_of nearly_colinear equation_of distance_of is_on_side is_near is_line_near plus minus quarter_turn determinant dot_product squared_length delta is_within rounded
+unfolding Holds legs_of216 join_values made_of if_near join_answer points_answer is_thin stroke_refusal miter_limit reaches is_corners_near is_join_near meet origin_of divisions_of division_of overlapping bent_at bent_of start_of join_of cramer_of solution_of side_of drawn_of crossing_of nearly_colinear equation_of distance_of is_on_side is_near is_line_near plus minus quarter_turn determinant dot_product squared_length delta is_within rounded
 legs-of-216 = rw (first-edges, second-edges)

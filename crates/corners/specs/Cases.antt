@@ -1,5 +1,6 @@
 -- What a case with numbers says of the entries' answers; and 01, "Corners with numbers": the cases marked P, in one list, with 02's K4.
-use Rattle.std.specs.Prelude.{◌≡◌, Bool, true, false, List, [], ◌∷◌, ℕ, ◌*◌, ℤ, pos, negsuc, length, replicate}
+use Rattle.std.specs.Prelude.{◌≡◌, Bool, true, false, List, [], ◌∷◌, ℕ, ◌*◌, ℤ, pos, negsuc, length, replicate, Ok, Some}
+use Rattle.std.specs.Prelude as prelude
 use Rattle.whole.specs.declared.Division.{Division}
 use Rattle.whole.specs.declared.Division.TheVariants.{Exact, Half}
 use Rattle.shapes.specs.declared.Point.{Point}
@@ -16,12 +17,11 @@ use Rattle.shapes.specs.declared.Offset.{Offset}
 use Rattle.shapes.specs.declared.Offset.TheVariants.{None}
 use Rattle.parallels.specs.declared.Parallel.{Parallel}
 use Rattle.parallels.specs.Parallels.{parallels_of}
-use Rattle.extents.specs.declared.Edges.{Edges}
+use Rattle.extents.specs.Sides.{Edges}
 use Rattle.extents.specs.Entry.{accepted, extents_answer}
 use Rattle.line_join.specs.declared.Caps.{Caps}
-use Rattle.line_join.specs.declared.Corners.{Corners}
+use Rattle.line_join.specs.Sides.{Corners}
 use Rattle.line_join.specs.declared.Join.{Join}
-use Rattle.line_join.specs.declared.Joined.TheVariants.{Made}
 use Rattle.line_join.specs.declared.Kind.TheVariants.{Miter}
 use Rattle.line_join.specs.declared.Origin.TheVariants.{Crossing}
 use Rattle.line_join.specs.Origins.{origins_of}
@@ -31,7 +31,6 @@ use Rattle.thick_segment.specs.declared.Rectangle.{Rectangle}
 use Rattle.thick_segment.specs.declared.Rows.{Rows}
 use Rattle.thick_segment.specs.Answers.{skeleton_answer, box_answer, drawn_rows_answer}
 use Rattle.coordinates.specs.Refusal.{route_refusal}
-use Rattle.route_joins.specs.declared.Step.TheVariants.{Drawn, End}
 use Rattle.route_joins.specs.Steps.{step_values}
 use Rattle.closed_thick_segment_iter.specs.declared.Walk.{Walk}
 use Rattle.closed_thick_segment_iter.specs.Walks.{closed_start, closed_step, after_closed}
@@ -78,22 +77,22 @@ board_of_row0 rs = board_after corner_limit (pos 0) (offers_of rs)
 
 -- a closed walk's steps answer these segments in turn, and then the end
 unfoldable pub Walks : List ℤ → Walk → List Segment → Type 0
-Walks cs walk [] = closed_step panel cs walk ≡ step_values End
-Walks cs walk (s ∷ ss) = (closed_step panel cs walk ≡ step_values (Drawn s)) × Walks cs (after_closed panel cs walk) ss
+Walks cs walk [] = closed_step panel cs walk ≡ step_values (Ok prelude.None)
+Walks cs walk (s ∷ ss) = (closed_step panel cs walk ≡ step_values (Ok (Some s))) × Walks cs (after_closed panel cs walk) ss
 
 unfoldable pub Holds : Case → Type 0
-Holds (crossing a b r) = crossing_answer crossing_limit a b ≡ crossing_values r
+Holds (crossing a b r) = crossing_answer crossing_limit a b ≡ crossing_values (Ok r)
 Holds (crossing_with_any a r) =
-    (b : Line) → LineNear crossing_limit b → (crossing_answer crossing_limit a b ≡ crossing_values r) × (crossing_answer crossing_limit b a ≡ crossing_values r)
+    (b : Line) → LineNear crossing_limit b → (crossing_answer crossing_limit a b ≡ crossing_values (Ok r)) × (crossing_answer crossing_limit b a ≡ crossing_values (Ok r))
 Holds (nearly p q t) =
     (a b : Line) → LineNear crossing_limit a → LineNear crossing_limit b → delta a ≡ p → delta b ≡ q → nearly_answer crossing_limit a b ≡ record { refusal = 0; holds = t }
-Holds (joins a b c w o j) = points_answer panel a b c w o ≡ join_values (Made j)
+Holds (joins a b c w o j) = points_answer panel a b c w o ≡ join_values (Ok j)
 Holds (board rs listing n) =
     (listed corner_limit (board_of_row0 rs) (2 * length listing) ≡ record { refusal = 0; count = length listing; total = n }) × (listed_to corner_limit (board_of_row0 rs) (replicate (2 * length listing) (pos 0)) ≡ flat listing)
 Holds (sides l p left right) =
     (side_answer crossing_limit l p Left ≡ record { refusal = 0; holds = left }) × (side_answer crossing_limit l p Right ≡ record { refusal = 0; holds = right })
 Holds (stroked l w o ps e) = (parallels_of l w o ≡ ps) × (extents_answer point_limit l w o ≡ accepted e)
-Holds (capped j starting ending) = (start_caps_answer corner_limit j ≡ caps_values starting) × (end_caps_answer corner_limit j ≡ caps_values ending)
+Holds (capped j starting ending) = (start_caps_answer corner_limit j ≡ caps_values (Ok starting)) × (end_caps_answer corner_limit j ≡ caps_values (Ok ending))
 Holds (rowed s box rows) =
     (box_answer corner_limit s ≡ record { refusal = 0; bend = 0; rectangle = box }) × (drawn_rows_answer corner_limit s ≡ record { refusal = 0; bend = 0; rows = rows })
 Holds (too_far s p) = skeleton_answer corner_limit s ≡ record { refusal = 5; bend = p; skeleton = false }

@@ -29,8 +29,8 @@ use Rattle.parallels.proofs.Laws.{shift, yield-away, going_next, parallels-end, 
 use Rattle.parallels.proofs.Plans.{going_start, sound-plan}
 use Rattle.parallels.proofs.Room.{near-away, begun-turn}
 use Rattle.extents.specs.declared.Edge.{Edge}
-use Rattle.extents.specs.declared.Ends.{Ends}
-use Rattle.extents.specs.declared.Edges.{Edges}
+use Rattle.extents.specs.Sides.{Ends}
+use Rattle.extents.specs.Sides.{Edges}
 use Rattle.extents.specs.Edges.{placed, seen, lasts, fresh_edge, fresh_ends, closed, extents_of, EdgesNear}
 
 -- ---- the edges begin at most 4w + 1 from the line's start, in each axis

@@ -22,8 +22,7 @@ use Rattle.parallels.specs.declared.Plan.{Plan}
 use Rattle.parallels.specs.declared.Parallels.{Parallels}
 use Rattle.parallels.specs.declared.Parallel.{Parallel}
 use Rattle.parallels.specs.declared.Taken.{Taken}
-use Rattle.parallels.specs.declared.Yielded.{Yielded}
-use Rattle.parallels.specs.Parallels.{due, first_side, flank_at, fresh_flank, turn_of, next_parallel, aimed, plan_along, plan_of, parallels_start, is_done, grown, yield_of, parallels_of, Sound, Begun}
+use Rattle.parallels.specs.Parallels.{due, first_side, flank_at, fresh_flank, turn_of, next_parallel, aimed, plan_along, plan_of, parallels_start, is_done, grown, Yielded, yield_of, parallels_of, Sound, Begun}
 use Rattle.parallels.proofs.Laws.{this-flank}
 use Rattle.parallels.proofs.Plans.{fresh-due, thickness-of, begins-with, sound-plan}
 use Rattle.parallels.proofs.Room.{begun-start}

@@ -9,8 +9,8 @@ use Rattle.bresenham.specs.declared.Parameters.{Parameters}
 use Rattle.parallels.specs.declared.Parallel.{Parallel}
 use Rattle.parallels.specs.Parallels.{plan_of, parallels_of}
 use Rattle.extents.specs.declared.Edge.{Edge}
-use Rattle.extents.specs.declared.Ends.{Ends}
-use Rattle.extents.specs.declared.Edges.{Edges}
+use Rattle.extents.specs.Sides.{Ends}
+use Rattle.extents.specs.Sides.{Edges}
 
 -- each yielded parallel replaces the point and type of its side
 abbrev pub placed : Side → Edge → Ends → Ends

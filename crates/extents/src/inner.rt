@@ -5,23 +5,21 @@ ghost use Rattle.shapes.specs.Shape.{Near, LineNear};
 ghost use Rattle.whole.specs.Number.{Within};
 ghost use Rattle.bresenham.specs.Walk.{step_limit, Sized};
 ghost use Rattle.parallels.specs.Parallels.{Sound, Begun, parallels};
-ghost use Rattle.extents.specs.Entry.{refused_with};
 ghost use Rattle.extents.specs.Edges.{fresh_ends, seen, lasts, closed, extents_of};
 
-use crate::{Answer, Edge, Edges, Ends};
+use crate::{Edge, Edges, Ends};
 use bresenham::Parameters;
 use parallels::inner::{is_done, next, plan_of, start};
 use parallels::{Parallel, Parallels, Plan};
 use shapes::inner::{delta, minus, plus};
-use shapes::{Line, Offset, Point, Side};
+use shapes::{Line, Offset, Side};
 
 /// The ends before the first parallel: both edges begin at the line's start.
 pub fn fresh_ends(line: Line) -> Ends
     ensures { result ≡ fresh_ends line }
 {
-    let point = line.start;
     let fresh = Edge {
-        point,
+        point: line.start,
         extra: false,
     };
     Ends {
@@ -30,41 +28,31 @@ pub fn fresh_ends(line: Line) -> Ends
     }
 }
 
-/// The ends after one more parallel: it replaces the one of its side.
-pub fn see(ends: Ends, parallel: Parallel) -> Ends
-    ensures { result ≡ seen ends parallel }
+/// One more parallel: it replaces the one of its side.
+#[tactic(auto, unfolding(crate::specs::Edges::seen))]
+pub fn see(ends: &mut Ends, parallel: Parallel)
+    ensures { ends.new ≡ seen ends.old parallel }
 {
-    let start = parallel.start;
-    let point = start.point;
     let edge = Edge {
-        point,
+        point: parallel.start.point,
         extra: parallel.extra,
     };
-    let left = ends.left;
-    let right = ends.right;
-    let side = parallel.side;
-    match side {
-        Side::Left => Ends { left: edge, right },
-        Side::Right => Ends { left, right: edge },
+    match parallel.side {
+        Side::Left => ends.left = edge,
+        Side::Right => ends.right = edge,
     }
 }
 
 /// The last parallels of both sides, from a state on.
-pub fn last_ends(plan: Plan, state: Parallels, ends: Ends) -> Ends
-    requires sound { Sound thick_limit plan }
-    requires begun { Begun thick_limit plan state }
-    ensures { result ≡ lasts ends (parallels plan state) }
+pub fn last_ends(plan: &Plan, mut state: Parallels, mut ends: Ends) -> Ends
+    requires sound { Sound thick_limit plan.now }
+    requires begun { Begun thick_limit plan.now state }
+    ensures { result ≡ lasts ends (parallels plan.now state) }
 {
-    let mut at = state;
-    let mut last = ends;
-    loop {
-        if is_done(plan, at) {
-            break last;
-        }
-        let yielded = next(plan, at);
-        last = see(last, yielded.parallel);
-        at = yielded.state;
+    while !is_done(plan, &state) {
+        see(&mut ends, next(plan, &mut state));
     }
+    ends
 }
 
 /// The edge of a line that begins at `edge`.
@@ -74,16 +62,16 @@ pub fn close(line: Line, along: Parameters, edge: Edge) -> Line
     requires near { Near step_limit edge.point }
     ensures { result ≡ closed line along edge }
 {
-    let start = edge.point;
-    let whole = plus(start, delta(line));
-    if edge.extra {
-        let reduce = plus(along.major, along.minor);
-        return Line {
-            start,
-            end: minus(whole, reduce),
-        };
+    let whole = plus(edge.point, delta(line));
+    let end = if edge.extra {
+        minus(whole, plus(along.major, along.minor))
+    } else {
+        whole
+    };
+    Line {
+        start: edge.point,
+        end,
     }
-    Line { start, end: whole }
 }
 
 /// The left and the right edge of a line, for a width and an offset.
@@ -93,25 +81,9 @@ pub fn extents(line: Line, width: i64, offset: Offset) -> Edges
     ensures { result ≡ extents_of line width offset }
 {
     let plan = plan_of(line, width, offset);
-    let last = last_ends(plan, start(plan, line.start), fresh_ends(line));
+    let last = last_ends(&plan, start(&plan, line.start), fresh_ends(line));
     Edges {
         left: close(line, plan.parallel, last.left),
         right: close(line, plan.parallel, last.right),
-    }
-}
-
-/// An answer that is refused.
-pub fn refused(number: u64) -> Answer
-    ensures { result ≡ refused_with number }
-{
-    let zero = Point { x: 0, y: 0 };
-    let none = Line {
-        start: zero,
-        end: zero,
-    };
-    Answer {
-        refusal: number,
-        left: none,
-        right: none,
     }
 }

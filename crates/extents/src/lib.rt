@@ -5,56 +5,31 @@ pub mod inner; // inner.rt: the edges of a line that is known to be within its l
 
 ghost use Rattle.std.specs.Prelude.{◌≡◌};
 ghost use Rattle.shapes.specs.Limits.{point_limit};
-ghost use Rattle.extents.specs.Entry.{extents_answer};
+ghost use Rattle.extents.specs.Entry.{edges_values, extents_answer};
 
 use shapes::inner::is_line_near;
 use shapes::limits::POINT;
-use shapes::strokes::stroke_refusal;
-use shapes::{Line, Offset, Point};
+use shapes::refusals::Refusal;
+use shapes::strokes::check_stroke;
+use shapes::{Line, Offset, Point, Sides};
 
 /// Where an edge begins, and whether its parallel is an Extra one, which is a pixel shorter.
-#[derive(Clone, Copy)]
+#[derive(Clone, Copy, Debug, PartialEq, Eq)]
 pub struct Edge {
     pub point: Point,
     pub extra: bool,
 }
 
 /// Where both edges begin.
-#[derive(Clone, Copy)]
-pub struct Ends {
-    pub left: Edge,
-    pub right: Edge,
-}
+pub type Ends = Sides<Edge>;
 
 /// The two edges of a line.
-#[derive(Clone, Copy)]
-pub struct Edges {
-    pub left: Line,
-    pub right: Line,
-}
-
-/// A refusal, or 0 and the two edges; a refusal has 0 in all other fields.
-#[derive(Clone, Copy)]
-pub struct Answer {
-    pub refusal: u64,
-    pub left: Line,
-    pub right: Line,
-}
+pub type Edges = Sides<Line>;
 
 /// The left and the right edge of a line. Refuses with 3 a width outside 0 to 64, then with 4 a coordinate outside 511.
-pub fn extents(line: Line, width: i64, offset: Offset) -> Answer
-    ensures { result ≡ extents_answer point_limit line width offset }
+pub fn extents(line: Line, width: i64, offset: Offset) -> Result<Edges, Refusal>
+    ensures { edges_values result ≡ extents_answer point_limit line width offset }
 {
-    let number = stroke_refusal(width, is_line_near(line, POINT));
-    if number != 0 {
-        return inner::refused(number);
-    }
-    let edges = inner::extents(line, width, offset);
-    let left = edges.left;
-    let right = edges.right;
-    Answer {
-        refusal: 0,
-        left,
-        right,
-    }
+    check_stroke(width, is_line_near(line, POINT))?;
+    Ok(inner::extents(line, width, offset))
 }

@@ -7,6 +7,7 @@ use native.Mathlib.Omega.{arith}
 use lib.Dec.{eqb, lit<}
 use lib.IntN.{ℤ, pos, nat_abs, ◌-ℤ◌, ◌*ℤ◌, ℤ_discrete}
 use lib.Signed.{lt_z, ◌<ℤ◌}
+use Rattle.std.specs.Prelude.{Result, Ok, Err}
 use Rattle.whole.specs.Rounded.{rounded}
 use Rattle.whole.specs.declared.Division.{Division}
 use Rattle.whole.specs.declared.Division.TheVariants.{Exact, Half, Rounded}
@@ -19,6 +20,8 @@ use Rattle.shapes.specs.declared.Line.{Line}
 use Rattle.shapes.specs.declared.Side.{Side}
 use Rattle.shapes.specs.declared.Side.TheVariants.{Left, Right}
 use Rattle.shapes.specs.declared.Divisions.{Divisions}
+use Rattle.shapes.specs.declared.refusals.Refusal.{Refusal}
+use Rattle.shapes.specs.declared.refusals.Refusal.TheVariants.{Form, Odd, Points, Width, Coordinate, Doubled, Corner, Row, Column, Room}
 use Rattle.shapes.specs.Shape.{LineNear, is_line_near, point_of, determinant, dot_product, quarter_turn, delta, minus}
 use Rattle.shapes.proofs.Laws.{line-near-iff, turn-determinant}
 use Rattle.linear_equation.specs.Equation.{equation_of}
@@ -161,20 +164,41 @@ read-division Exact = refl
 read-division Half = refl
 read-division Rounded = refl
 
-abbrev read_back : CrossingValues → Crossed
-read_back v =
-    cond (eqb v.found 0) (crossed.Refused v.refusal)
-    (cond (eqb v.found 1) crossed.Colinear
-    (crossed.At (point_of v.x v.y) (cond (eqb v.found 2) Left Right) (record { x = read_division v.x_division; y = read_division v.y_division })))
+-- a refusal, from its number and the position that comes with it
+abbrev read_refusal : ℕ → ℕ → Refusal
+read_refusal n p =
+    cond (eqb n 9) Form (cond (eqb n 1) Odd (cond (eqb n 2) Points (cond (eqb n 3) Width (cond (eqb n 4) Coordinate
+    (cond (eqb n 12) Doubled (cond (eqb n 5) (Corner p) (cond (eqb n 6) Row (cond (eqb n 7) Column Room))))))))
 
-read-back : (r : Crossed) → read_back (crossing_values r) ≡ r
+abbrev read_crossed : CrossingValues → Crossed
+read_crossed v =
+    cond (eqb v.found 1) crossed.Colinear
+    (crossed.At (point_of v.x v.y) (cond (eqb v.found 2) Left Right) (record { x = read_division v.x_division; y = read_division v.y_division }))
+
+abbrev read_back : CrossingValues → Result Crossed Refusal
+read_back v = cond (eqb v.refusal 0) (Ok (read_crossed v)) (Err (read_refusal v.refusal v.found))
+
+refused-back : (r : Refusal) → read_back (crossing_values (Err r)) ≡ Err r
 unfolding crossing_values
-read-back (crossed.At p Left ds) = simp read-division
-read-back (crossed.At p Right ds) = simp read-division
-read-back crossed.Colinear = refl
-read-back (crossed.Refused n) = refl
+refused-back Form = refl
+refused-back Odd = refl
+refused-back Points = refl
+refused-back Width = refl
+refused-back Coordinate = refl
+refused-back Doubled = refl
+refused-back (Corner p) = refl
+refused-back Row = refl
+refused-back Column = refl
+refused-back Room = refl
 
-pub values-tell : (r s : Crossed) → crossing_values r ≡ crossing_values s → r ≡ s
+read-back : (r : Result Crossed Refusal) → read_back (crossing_values r) ≡ r
+unfolding crossing_values
+read-back (Ok (crossed.At p Left ds)) = simp read-division
+read-back (Ok (crossed.At p Right ds)) = simp read-division
+read-back (Ok crossed.Colinear) = refl
+read-back (Err r) = refused-back r
+
+pub values-tell : (r s : Result Crossed Refusal) → crossing_values r ≡ crossing_values s → r ≡ s
 values-tell r s e = sym (read-back r) ∙ ap read_back e ∙ read-back s
 
 -- both lines are inside a limit
@@ -186,23 +210,23 @@ unfolding are_lines_near
 near-exactly k a b = and-iff (is_line_near k a) (is_line_near k b) (line-near-iff k a) (line-near-iff k b)
 
 -- inside the limit the crossing, else refusal 4 with 0 in every other value
-pub crossing-chosen : (k : ℕ) (a b : Line) → Chosen (Inside k a b) (crossing_answer k a b) (crossing_values (found_of (solution_of a b))) (record { refusal = 4; found = 0; x = pos 0; y = pos 0; x_division = 0; y_division = 0 })
+pub crossing-chosen : (k : ℕ) (a b : Line) → Chosen (Inside k a b) (crossing_answer k a b) (crossing_values (Ok (found_of (solution_of a b)))) (record { refusal = 4; found = 0; x = pos 0; y = pos 0; x_division = 0; y_division = 0 })
 unfolding crossing_answer crossing_values
 crossing-chosen k a b =
-    let c = chosen (are_lines_near k a b) (found_of (solution_of a b)) (crossed.Refused 4) (near-exactly k a b) in
+    let c = chosen (are_lines_near k a b) (Ok (found_of (solution_of a b))) (Err Coordinate) (near-exactly k a b) in
     record { holds = λ h. ap crossing_values (c.holds h); fails = λ n. ap crossing_values (c.fails n) }
 
 pub nearly-chosen : (k : ℕ) (a b : Line) → Chosen (Inside k a b) (nearly_answer k a b) (record { refusal = 0; holds = nearly_colinear a b }) (record { refusal = 4; holds = false })
 unfolding nearly_answer
 nearly-chosen k a b = chosen (are_lines_near k a b) _ _ (near-exactly k a b)
 
-unrefused-by : (ds : Divisions) (x : Intersection) → (crossing_values (with_divisions ds x)).refusal ≡ 0
+unrefused-by : (ds : Divisions) (x : Intersection) → (crossing_values (Ok (with_divisions ds x))).refusal ≡ 0
 unfolding crossing_values
 unrefused-by ds (At p s) = refl
 unrefused-by ds Colinear = refl
 
 -- a crossing that is worked out is no refusal
-unrefused : (s : Solution) → (crossing_values (found_of s)).refusal ≡ 0
+unrefused : (s : Solution) → (crossing_values (Ok (found_of s))).refusal ≡ 0
 unfolding found_of
 unrefused s = unrefused-by (divisions_of s) (drawn_of s)
 

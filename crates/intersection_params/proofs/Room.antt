@@ -48,3 +48,6 @@ near_first a b e = line-room a (and_left (is_line_near crossing_limit a) (is_lin
 pub near-second : (a b : Line) → are_lines_near crossing_limit a b ≡ true → LineNear line_limit b
 unfolding are_lines_near
 near-second a b e = line-room b (and_right (is_line_near crossing_limit a) (is_line_near crossing_limit b) e)
+
+-- what lets the entries call what asks for bounds
+pub ruleset inside = (near_first, near-second, solution-roomy)

@@ -1,5 +1,5 @@
 -- 01, intersection_params.rs: the crossing of two lines, the near-colinear test, and the entries' answers; with 02's K4.
-use Rattle.std.specs.Prelude.{Bool, false, ◌&&◌, cond, ℕ, ◌^◌, ℤ, pos, nat_abs, ◌*ℤ◌}
+use Rattle.std.specs.Prelude.{Bool, false, ◌&&◌, cond, ℕ, ◌^◌, ℤ, pos, nat_abs, ◌*ℤ◌, Result, Ok, Err}
 use Rattle.std.specs.Int.Signed.{lt_z}
 use Rattle.whole.specs.Number.{Within, eq_z}
 use Rattle.whole.specs.Rounded.{rounded}
@@ -10,11 +10,12 @@ use Rattle.shapes.specs.declared.Divisions.{Divisions}
 use Rattle.shapes.specs.declared.Line.{Line}
 use Rattle.shapes.specs.declared.Side.{Side}
 use Rattle.shapes.specs.declared.Side.TheVariants.{Left, Right}
-use Rattle.shapes.specs.Refusals.{coordinate_refused}
+use Rattle.shapes.specs.declared.refusals.Refusal.{Refusal}
+use Rattle.shapes.specs.declared.refusals.Refusal.TheVariants.{Coordinate}
+use Rattle.shapes.specs.Refusals.{coordinate_refused, number_of, bend_of}
 use Rattle.shapes.specs.Shape.{point_of, is_line_near, determinant, dot_product, delta}
 use Rattle.linear_equation.specs.declared.LinearEquation.{LinearEquation}
-use Rattle.linear_equation.specs.declared.Tested.{Tested}
-use Rattle.linear_equation.specs.Equation.{equation_of}
+use Rattle.linear_equation.specs.Equation.{equation_of, Tested}
 use Rattle.intersection_params.specs.declared.Solution.{Solution}
 use Rattle.intersection_params.specs.declared.Intersection.{Intersection}
 use Rattle.intersection_params.specs.declared.Intersection.TheVariants.{At, Colinear}
@@ -75,8 +76,8 @@ with_divisions ds Colinear = crossed.Colinear
 unfoldable pub found_of : Solution → Crossed
 found_of s = with_divisions (divisions_of s) (drawn_of s)
 
--- the refusal; what was found, 1 Colinear, 2 a crossing with its outer side Left, 3 one with Right; where; and of each
--- coordinate 1 exact, 2 half way, 3 rounded
+-- the refusal; what was found, 1 Colinear, 2 a crossing with its outer side Left, 3 one with Right, and with a refusal the
+-- position that comes with it, which is 0 with 4; where; and of each coordinate 1 exact, 2 half way, 3 rounded
 pub record CrossingValues : Type 0 where
   pub refusal : ℕ
   pub found : ℕ
@@ -94,18 +95,18 @@ division_number Exact = 1
 division_number Half = 2
 division_number Rounded = 3
 
-unfoldable pub crossing_values : Crossed → CrossingValues
-crossing_values (crossed.At p s ds) =
+unfoldable pub crossing_values : Result Crossed Refusal → CrossingValues
+crossing_values (Ok (crossed.At p s ds)) =
     record { refusal = 0; found = side_number s; x = p.x; y = p.y; x_division = division_number ds.x; y_division = division_number ds.y }
-crossing_values crossed.Colinear = record { refusal = 0; found = 1; x = pos 0; y = pos 0; x_division = 0; y_division = 0 }
-crossing_values (crossed.Refused n) = record { refusal = n; found = 0; x = pos 0; y = pos 0; x_division = 0; y_division = 0 }
+crossing_values (Ok crossed.Colinear) = record { refusal = 0; found = 1; x = pos 0; y = pos 0; x_division = 0; y_division = 0 }
+crossing_values (Err r) = record { refusal = number_of r; found = bend_of r; x = pos 0; y = pos 0; x_division = 0; y_division = 0 }
 
 -- whether both lines are inside the limit
 unfoldable pub are_lines_near : ℕ → Line → Line → Bool
 are_lines_near k a b = is_line_near k a && is_line_near k b
 
 unfoldable pub crossing_answer : ℕ → Line → Line → CrossingValues
-crossing_answer k a b = crossing_values (cond (are_lines_near k a b) (found_of (solution_of a b)) (crossed.Refused coordinate_refused))
+crossing_answer k a b = crossing_values (cond (are_lines_near k a b) (Ok (found_of (solution_of a b))) (Err Coordinate))
 
 unfoldable pub nearly_answer : ℕ → Line → Line → Tested
 nearly_answer k a b =

@@ -13,21 +13,26 @@ use shapes::{Divisions, Line, Point, Side};
 use whole::inner::{division, magnitude, rounded};
 
 /// The determinant and the two numerators of the crossing, by Cramer's rule on the equations of the lines.
+#[tactic(auto, unfolding(crate::specs::Crossing::cramer_of))]
 pub fn cramer(a: LinearEquation, b: LinearEquation) -> Solution
     requires tame { Tame a }
     requires tame_2 { Tame b }
     ensures { result ≡ cramer_of a b }
 {
-    let m = a.normal;
-    let n = b.normal;
     let distances = Point {
         x: a.distance,
         y: b.distance,
     };
-    let xs = Point { x: m.x, y: n.x };
-    let ys = Point { x: m.y, y: n.y };
+    let xs = Point {
+        x: a.normal.x,
+        y: b.normal.x,
+    };
+    let ys = Point {
+        x: a.normal.y,
+        y: b.normal.y,
+    };
     Solution {
-        determinant: determinant(m, n),
+        determinant: determinant(a.normal, b.normal),
         x: determinant(distances, ys),
         y: determinant(xs, distances),
     }
@@ -71,6 +76,7 @@ pub fn drawn(solution: Solution) -> Intersection
 }
 
 /// How the coordinates of a solution come out whose determinant is not 0.
+#[tactic(auto, unfolding(crate::specs::Crossing::divisions_of))]
 pub fn divisions(solution: Solution) -> Divisions
     requires roomy { Roomy solution }
     requires determinant_nonzero { solution.determinant ≢ pos 0 }

@@ -5,71 +5,76 @@ use mathlib.Core.Logic.{◌↔◌, ◌≢◌}
 use mathlib.Core.Bool.{Bool, true, false, ◌&&◌, cond}
 use Prim.Native.Nat.{ℕ, ◌+◌, ◌*◌, ◌≤◌}
 use native.Mathlib.Omega.{arith}
-use borrow.Author.Tests.{eqb-false, ne_eqb}
+use borrow.Author.Tests.{eqb-false}
 use lib.Dec.{eqb}
 use lib.IntN.{ℤ}
-use Rattle.whole.proofs.Tests.{and-iff, Chosen, chosen, never, bad-first, good-first, good-later}
+use Rattle.std.specs.Prelude.{Result, Ok, Err, Option, Some, None}
+use Rattle.whole.proofs.Tests.{and-iff, Chosen, chosen, else-true, never, bad-first, good-first, good-later}
 use Rattle.shapes.specs.declared.Point.{Point}
+use Rattle.shapes.specs.declared.Line.{Line}
 use Rattle.shapes.specs.declared.Side.TheVariants.{Left, Right}
 use Rattle.shapes.specs.declared.Offset.{Offset}
 use Rattle.shapes.specs.declared.limits.Limits.{Limits}
-use Rattle.shapes.specs.Limits.{width_limit, line_limit}
+use Rattle.shapes.specs.declared.refusals.Refusal.{Refusal}
+use Rattle.shapes.specs.declared.refusals.Refusal.TheVariants.{Corner}
+use Rattle.shapes.specs.Refusals.{number_of}
+use Rattle.shapes.specs.Limits.{corner_limit, width_limit, line_limit}
 use Rattle.shapes.specs.Shape.{Near, LineNear, line_of, is_near, is_line_near, no_line}
 use Rattle.shapes.proofs.Laws.{near-iff, line-near-iff}
 use Rattle.line_join.specs.declared.Kind.{Kind}
 use Rattle.line_join.specs.declared.Kind.TheVariants as kind
-use Rattle.line_join.specs.declared.Corners.{Corners}
 use Rattle.line_join.specs.declared.Join.{Join}
-use Rattle.line_join.specs.declared.Joined.{Joined}
-use Rattle.line_join.specs.declared.Joined.TheVariants as joined
-use Rattle.line_join.specs.declared.Filler.{Filler}
-use Rattle.line_join.specs.declared.Filler.TheVariants as filler
 use Rattle.line_join.specs.declared.Caps.{Caps}
 use Rattle.line_join.specs.declared.Caps.TheVariants as caps
 use Rattle.shapes.specs.Strokes.{Thin, is_thin, stroke_refusal}
-use Rattle.line_join.specs.Caps.{JoinNear, is_join_near, filler_by, filler_of, capped_by, cap_of, start_caps_of, end_caps_of, is_degenerate}
+use Rattle.line_join.specs.Caps.{JoinNear, is_join_near, filler_of, start_caps_of, end_caps_of, is_degenerate}
 use Rattle.line_join.specs.Words.{Refusals, Named, BendTold}
 use Rattle.line_join.specs.Standing.{standing_at}
-use Rattle.line_join.specs.Origins.{no_crossings}
 use Rattle.line_join.specs.Join.{start_of, end_of, join_of}
-use Rattle.line_join.specs.Answers.{no_corners, kind_number, JoinValues, join_values, FillerValues, filler_values, CapsValues, caps_values}
+use Rattle.line_join.specs.Answers.{kind_number, JoinValues, refused_join, join_values, FillerValues, filler_values, CapsValues, caps_values, Judged, degenerate_values, if_near}
 use Rattle.line_join.specs.Answers.{made_of, join_answer, start_answer, end_answer, points_answer, filler_answer, start_caps_answer, end_caps_answer, degenerate_answer}
 use Rattle.line_join.proofs.Laws.{start-within, end-within}
 use Rattle.shapes.proofs.Widths.{thin-iff, stroke-none}
-use Rattle.line_join.proofs.Room.{join-near-iff}
+use Rattle.line_join.proofs.Room.{join-room, join-near-iff}
 use Rattle.line_join.proofs.Standing.{standing-near}
+use Rattle.shapes.proofs.Numbers.{numbered, unbent, read_refusal, read-refusal}
 use Rattle.line_join.proofs.Named.{bend-told, chosen-told, alone-named, alone-far}
 
 -- ---- the constructors
 
--- what an entry knows of its input's refusal n
-module _ (k : ℕ) (w : ℤ) (near : Bool) {n : ℕ} (is : n ≡ stroke_refusal w near) where
-  -- with none the input is inside the limits
-  pub admitted : n ≡ 0 → Thin w × (near ≡ true)
-  admitted e = (stroke-none w {near = near} (λ e. e, λ e. e)).0 (sym is ∙ e)
+stroke-other : (w : ℤ) (near : Bool) → stroke_refusal w near ≢ 5
+unfolding stroke_refusal
+stroke-other w near = never (is_thin w) (never near (λ e. omega arith) (λ e. omega arith)) (λ e. omega arith)
 
-  -- and the answer is what is made of the join
-  pub answer-made : {r : Joined} (j : Join) → n ≡ 0 → r ≡ made_of k j → join_values r ≡ join_answer k w near j
+-- what an entry knows of its input where it is not refused: it is inside the limits, and the answer is what is made of the join
+module _ (w : ℤ) (near : Bool) (none : 0 ≡ stroke_refusal w near) where
+  pub admitted : Thin w × (near ≡ true)
+  admitted = (stroke-none w {near = near} (λ e. e, λ e. e)).0 (sym none)
+
+  pub answer-made : (k : ℕ) (j : Join) → join_values (made_of k j) ≡ join_answer k w near j
   unfolding join_answer
-  answer-made j e f = simp (f, sym is ∙ e)
+  answer-made k j = rw (← none) refl
 
-  -- else the answer is n
-  pub answer-refused : (j : Join) → (n ≡ 0 → ⊥) → join_values (joined.Refused n 0) ≡ join_answer k w near j
-  unfolding join_answer
-  answer-refused j h = simp (sym is, ne_eqb n 0 h)
+-- else the answer is the refusal, which comes with no position
+refused_by : (r : Refusal) {n : ℕ} → number_of r ≡ n → n ≢ 5 → (v : JoinValues) → join_values (Err r) ≡ cond (eqb n 0) v (refused_join n 0)
+unfolding join_values
+refused_by r e other v = rw (← e, numbered r, unbent r (λ five. other (sym e ∙ five))) refl
 
-made_by : (j : Join) (t : Bool) → (join_values (cond t (joined.Made j) (joined.Refused 5 j.position))).refusal ≡ cond t 0 5
+pub answer-refused : (k : ℕ) (w : ℤ) (near : Bool) (r : Refusal) → number_of r ≡ stroke_refusal w near → (j : Join) → join_values (Err r) ≡ join_answer k w near j
+unfolding join_answer
+answer-refused k w near r e j = refused_by r e (stroke-other w near) (join_values (made_of k j))
+
+made_by : (j : Join) (t : Bool) → (join_values (cond t (Ok j) (Err (Corner j.position)))).refusal ≡ cond t 0 5
 unfolding join_values
 made_by j true = refl
 made_by j false = refl
 
 made-refusal : (k : ℕ) (j : Join) → (join_values (made_of k j)).refusal ≡ cond (is_join_near k j) 0 5
-unfolding made_of
+unfolding made_of if_near
 made-refusal k j = made_by j (is_join_near k j)
 
 -- the chain, by its three tests
-chain_by : (k : ℕ) (j : Join) (t n : Bool) → (join_values (cond (eqb (cond t (cond n 0 4) 3) 0) (made_of k j) (joined.Refused (cond t (cond n 0 4) 3) 0))).refusal ≡ cond t (cond n (cond (is_join_near k j) 0 5) 4) 3
-unfolding join_values
+chain_by : (k : ℕ) (j : Join) (t n : Bool) → (cond (eqb (cond t (cond n 0 4) 3) 0) (join_values (made_of k j)) (refused_join (cond t (cond n 0 4) 3) 0)).refusal ≡ cond t (cond n (cond (is_join_near k j) 0 5) 4) 3
 chain_by k j true true = made-refusal k j
 chain_by k j true false = refl
 chain_by k j false n = refl
@@ -92,7 +97,7 @@ refusal-exactly k w near j exactly corners =
 standing-iff : (k i : ℕ) (j : Join) → (is_join_near k (standing_at i j) ≡ true) ↔ JoinNear k j
 standing-iff k i j = rw (standing-near k i j) (join-near-iff k j)
 
-points-iff : (limits : Limits) (a b c : Point) → ((is_line_near limits.point (line_of a b) && is_near limits.point c) ≡ true) ↔ (LineNear limits.point (line_of a b) × Near limits.point c)
+pub points-iff : (limits : Limits) (a b c : Point) → ((is_line_near limits.point (line_of a b) && is_near limits.point c) ≡ true) ↔ (LineNear limits.point (line_of a b) × Near limits.point c)
 points-iff limits a b c = and-iff (is_line_near limits.point (line_of a b)) (is_near limits.point c) (line-near-iff limits.point (line_of a b)) (near-iff limits.point c)
 
 module _ (limits : Limits) (a b : Point) (w : ℤ) (o : Offset) where
@@ -118,32 +123,25 @@ module _ (limits : Limits) (fits : limits.point ≤ line_limit) (room : limits.p
   end-accepted = (end-refusal limits a b w o).none.1 (t, (h, end-within o fits room h.start_near h.end_near t))
 
 -- with no refusal the join, else the refusal and what comes with 5, with 0 in every other value, and no crossing on either side
-abbrev pub refused_join : ℕ → ℕ → JoinValues
-refused_join n b = record { refusal = n; bend = b; kind = 0; ending = no_corners; starting = no_corners; origins = no_crossings; position = 0 }
-
-chosen_by : (k : ℕ) (j : Join) (n : ℕ) (t s : Bool) → eqb n 0 ≡ t → is_join_near k j ≡ s → let v = join_values (cond (eqb n 0) (made_of k j) (joined.Refused n 0)) in
-    Chosen (v.refusal ≡ 0) v (join_values (joined.Made j)) (refused_join v.refusal v.bend)
-unfolding made_of join_values
+chosen_by : (k : ℕ) (j : Join) (n : ℕ) (t s : Bool) → eqb n 0 ≡ t → is_join_near k j ≡ s → let v = cond (eqb n 0) (join_values (made_of k j)) (refused_join n 0) in
+    Chosen (v.refusal ≡ 0) v (join_values (Ok j)) (refused_join v.refusal v.bend)
+unfolding made_of if_near join_values
 chosen_by k j n true true e f = rw (e, f) (record { holds = λ h. refl; fails = λ h. absurd (h refl) })
 chosen_by k j n true false e f = rw (e, f) (record { holds = λ h. absurd (omega arith); fails = λ h. refl })
 chosen_by k j n false s e f = rw e (record { holds = λ h. absurd (eqb-false n 0 e h); fails = λ h. refl })
 
-pub answer-chosen : (k : ℕ) (w : ℤ) (near : Bool) (j : Join) → Chosen ((join_answer k w near j).refusal ≡ 0) (join_answer k w near j) (join_values (joined.Made j)) (refused_join (join_answer k w near j).refusal (join_answer k w near j).bend)
+pub answer-chosen : (k : ℕ) (w : ℤ) (near : Bool) (j : Join) → Chosen ((join_answer k w near j).refusal ≡ 0) (join_answer k w near j) (join_values (Ok j)) (refused_join (join_answer k w near j).refusal (join_answer k w near j).bend)
 unfolding join_answer
 answer-chosen k w near j = chosen_by k j (stroke_refusal w near) (eqb (stroke_refusal w near) 0) (is_join_near k j) refl refl
 
 -- ---- the bend of a constructor's refusal
 
-bends-by : (k : ℕ) (j : Join) (n : ℕ) (t s : Bool) → n ≢ 5 → eqb n 0 ≡ t → is_join_near k j ≡ s → let v = join_values (cond (eqb n 0) (made_of k j) (joined.Refused n 0)) in
+bends-by : (k : ℕ) (j : Join) (n : ℕ) (t s : Bool) → n ≢ 5 → eqb n 0 ≡ t → is_join_near k j ≡ s → let v = cond (eqb n 0) (join_values (made_of k j)) (refused_join n 0) in
     (v.refusal ≡ 5 → v.bend ≡ j.position) × (v.refusal ≢ 5 → v.bend ≡ 0)
-unfolding made_of join_values
+unfolding made_of if_near join_values
 bends-by k j n true true other e f = rw (e, f) (λ h. absurd (omega arith), λ h. refl)
 bends-by k j n true false other e f = rw (e, f) (λ h. refl, λ h. absurd (h refl))
 bends-by k j n false s other e f = rw e (λ h. absurd (other h), λ h. refl)
-
-stroke-other : (w : ℤ) (near : Bool) → stroke_refusal w near ≢ 5
-unfolding stroke_refusal
-stroke-other w near = never (is_thin w) (never near (λ e. omega arith) (λ e. omega arith)) (λ e. omega arith)
 
 answer-bend : (k : ℕ) (w : ℤ) (near : Bool) (j : Join) → let v = join_answer k w near j in (v.refusal ≡ 5 → v.bend ≡ j.position) × (v.refusal ≢ 5 → v.bend ≡ 0)
 unfolding join_answer
@@ -190,43 +188,44 @@ module _ (limits : Limits) (a b c : Point) (w : ℤ) (o : Offset) where
 -- ---- answers on a join handed in: inside the limit the answer, else refusal 5 at the join's position with 0 in every other value
 
 -- inside, nothing is refused
-filler-free : (k : Kind) (ending starting : Corners) → let v = filler_values (filler_by k ending starting) in (v.refusal ≡ 0) × (v.bend ≡ 0)
+filler-free : (l : Option Line) → let v = filler_values (Ok l) in (v.refusal ≡ 0) × (v.bend ≡ 0)
 unfolding filler_values
-filler-free kind.Miter ending starting = (refl, refl)
-filler-free (kind.Bevel s) ending starting = (refl, refl)
-filler-free (kind.Degenerate s) ending starting = (refl, refl)
-filler-free kind.Colinear ending starting = (refl, refl)
-filler-free kind.Start ending starting = (refl, refl)
-filler-free kind.End ending starting = (refl, refl)
+filler-free (Some l) = (refl, refl)
+filler-free None = (refl, refl)
 
-caps-free : (f : Filler) (c : Corners) → let v = caps_values (capped_by f c) in (v.refusal ≡ 0) × (v.bend ≡ 0)
+caps-free : (c : Caps) → let v = caps_values (Ok c) in (v.refusal ≡ 0) × (v.bend ≡ 0)
 unfolding caps_values
-caps-free (filler.Filled l) c = (refl, refl)
-caps-free filler.Nothing c = (refl, refl)
-caps-free (filler.Refused n b) c = (refl, refl)
+caps-free (caps.One l) = (refl, refl)
+caps-free (caps.Two l m) = (refl, refl)
+
+-- what is not refused is small enough
+pub let-through : (j : Join) (u v : Unit {0}) → Ok u ≡ if_near corner_limit j v → JoinNear line_limit j
+unfolding if_near
+let-through j u v e = join-room j (else-true (is_join_near corner_limit j) (λ far. let no : Ok u ≡ Err (Corner j.position) = rw far at e in cc))
 
 module _ (k : ℕ) (j : Join) where
   -- whatever values an answer has
-  handed-chosen : {A B : Type 0} (values : A → B) (a b : A) → Chosen (JoinNear k j) (values (cond (is_join_near k j) a b)) (values a) (values b)
-  handed-chosen values a b =
-      let c = chosen (is_join_near k j) a b (join-near-iff k j) in
+  handed-chosen : {A B : Type 0} (values : Result A Refusal → B) (a : A) → Chosen (JoinNear k j) (values (if_near k j a)) (values (Ok a)) (values (Err (Corner j.position)))
+  unfolding if_near
+  handed-chosen values a =
+      let c = chosen (is_join_near k j) (Ok a) (Err (Corner j.position)) (join-near-iff k j) in
       record { holds = λ h. ap values (c.holds h); fails = λ h. ap values (c.fails h) }
 
-  pub filler-chosen : Chosen (JoinNear k j) (filler_answer k j) (filler_values (filler_of j)) (record { refusal = 5; bend = j.position; found = 0; line = no_line })
+  pub filler-chosen : Chosen (JoinNear k j) (filler_answer k j) (filler_values (Ok (filler_of j))) (record { refusal = 5; bend = j.position; found = 0; line = no_line })
   unfolding filler_answer filler_values
-  filler-chosen = handed-chosen filler_values (filler_of j) (filler.Refused 5 j.position)
+  filler-chosen = handed-chosen filler_values (filler_of j)
 
-  pub start-caps-chosen : Chosen (JoinNear k j) (start_caps_answer k j) (caps_values (start_caps_of j)) (record { refusal = 5; bend = j.position; count = 0; first = no_line; second = no_line })
+  pub start-caps-chosen : Chosen (JoinNear k j) (start_caps_answer k j) (caps_values (Ok (start_caps_of j))) (record { refusal = 5; bend = j.position; count = 0; first = no_line; second = no_line })
   unfolding start_caps_answer caps_values
-  start-caps-chosen = handed-chosen caps_values (start_caps_of j) (caps.Refused 5 j.position)
+  start-caps-chosen = handed-chosen caps_values (start_caps_of j)
 
-  pub end-caps-chosen : Chosen (JoinNear k j) (end_caps_answer k j) (caps_values (end_caps_of j)) (record { refusal = 5; bend = j.position; count = 0; first = no_line; second = no_line })
+  pub end-caps-chosen : Chosen (JoinNear k j) (end_caps_answer k j) (caps_values (Ok (end_caps_of j))) (record { refusal = 5; bend = j.position; count = 0; first = no_line; second = no_line })
   unfolding end_caps_answer caps_values
-  end-caps-chosen = handed-chosen caps_values (end_caps_of j) (caps.Refused 5 j.position)
+  end-caps-chosen = handed-chosen caps_values (end_caps_of j)
 
   pub degenerate-chosen : Chosen (JoinNear k j) (degenerate_answer k j) (record { refusal = 0; bend = 0; degenerate = is_degenerate j.kind }) (record { refusal = 5; bend = j.position; degenerate = false })
-  unfolding degenerate_answer
-  degenerate-chosen = chosen (is_join_near k j) _ _ (join-near-iff k j)
+  unfolding degenerate_answer degenerate_values
+  degenerate-chosen = handed-chosen degenerate_values (is_degenerate j.kind)
 
   -- whatever position the join was given
   told : {A : Type 0} {x a b : A} (number bend : A → ℕ) → Chosen (JoinNear k j) x a b → number a ≡ 0 → bend a ≡ 0 → number b ≡ 5 → bend b ≡ j.position → BendTold Unit k (λ i. j) 1 (number x) (bend x)
@@ -234,16 +233,13 @@ module _ (k : ℕ) (j : Join) where
       chosen-told k (λ i. j) 1 number bend (is_join_near k j) (join-near-iff k j) c none zero five (λ far. subst (Named k (λ i. j) 1) (sym is) (alone-named k j far)) (alone-far k j)
 
   pub filler-bend : BendTold Unit k (λ i. j) 1 (filler_answer k j).refusal (filler_answer k j).bend
-  unfolding filler_of
-  filler-bend = let free = filler-free j.kind j.ending j.starting in told (λ v. v.refusal) (λ v. v.bend) filler-chosen free.0 free.1 refl refl
+  filler-bend = let free = filler-free (filler_of j) in told (λ v. v.refusal) (λ v. v.bend) filler-chosen free.0 free.1 refl refl
 
   pub start-caps-bend : BendTold Unit k (λ i. j) 1 (start_caps_answer k j).refusal (start_caps_answer k j).bend
-  unfolding start_caps_of cap_of
-  start-caps-bend = let free = caps-free (filler_of j) j.starting in told (λ v. v.refusal) (λ v. v.bend) start-caps-chosen free.0 free.1 refl refl
+  start-caps-bend = let free = caps-free (start_caps_of j) in told (λ v. v.refusal) (λ v. v.bend) start-caps-chosen free.0 free.1 refl refl
 
   pub end-caps-bend : BendTold Unit k (λ i. j) 1 (end_caps_answer k j).refusal (end_caps_answer k j).bend
-  unfolding end_caps_of cap_of
-  end-caps-bend = let free = caps-free (filler_of j) j.ending in told (λ v. v.refusal) (λ v. v.bend) end-caps-chosen free.0 free.1 refl refl
+  end-caps-bend = let free = caps-free (end_caps_of j) in told (λ v. v.refusal) (λ v. v.bend) end-caps-chosen free.0 free.1 refl refl
 
   pub degenerate-bend : BendTold Unit k (λ i. j) 1 (degenerate_answer k j).refusal (degenerate_answer k j).bend
   degenerate-bend = told (λ v. v.refusal) (λ v. v.bend) degenerate-chosen refl refl refl refl
@@ -260,10 +256,10 @@ read_kind n =
     (cond (eqb n 6) kind.Colinear
     (cond (eqb n 7) kind.Start kind.End))))))
 
-abbrev read_join : JoinValues → Joined
+abbrev read_join : JoinValues → Result Join Refusal
 read_join v =
-    cond (eqb v.kind 0) (joined.Refused v.refusal v.bend)
-    (joined.Made (record { kind = read_kind v.kind; ending = v.ending; starting = v.starting; origins = v.origins; position = v.position }))
+    cond (eqb v.kind 0) (Err (read_refusal v.refusal v.bend))
+    (Ok (record { kind = read_kind v.kind; ending = v.ending; starting = v.starting; origins = v.origins; position = v.position }))
 
 read-kind : (k : Kind) → (eqb (kind_number k) 0 ≡ false) × (read_kind (kind_number k) ≡ k)
 read-kind kind.Miter = (refl, refl)
@@ -275,34 +271,45 @@ read-kind kind.Colinear = (refl, refl)
 read-kind kind.Start = (refl, refl)
 read-kind kind.End = (refl, refl)
 
-read-join : (r : Joined) → read_join (join_values r) ≡ r
+read-join : (r : Result Join Refusal) → read_join (join_values r) ≡ r
 unfolding join_values
-read-join (joined.Made j) = simp ((read-kind j.kind).0, (read-kind j.kind).1)
-read-join (joined.Refused n b) = refl
+read-join (Ok j) = simp ((read-kind j.kind).0, (read-kind j.kind).1)
+read-join (Err r) = ap Err (read-refusal r)
 
-pub join-values-tell : (r s : Joined) → join_values r ≡ join_values s → r ≡ s
+pub join-values-tell : (r s : Result Join Refusal) → join_values r ≡ join_values s → r ≡ s
 join-values-tell r s e = sym (read-join r) ∙ ap read_join e ∙ read-join s
 
-abbrev read_filler : FillerValues → Filler
-read_filler v = cond (eqb v.found 0) (filler.Refused v.refusal v.bend) (cond (eqb v.found 1) filler.Nothing (filler.Filled v.line))
+abbrev read_filler : FillerValues → Result (Option Line) Refusal
+read_filler v = cond (eqb v.found 0) (Err (read_refusal v.refusal v.bend)) (Ok (cond (eqb v.found 1) None (Some v.line)))
 
-read-filler : (r : Filler) → read_filler (filler_values r) ≡ r
+read-filler : (r : Result (Option Line) Refusal) → read_filler (filler_values r) ≡ r
 unfolding filler_values
-read-filler (filler.Filled l) = refl
-read-filler filler.Nothing = refl
-read-filler (filler.Refused n b) = refl
+read-filler (Ok (Some l)) = refl
+read-filler (Ok None) = refl
+read-filler (Err r) = ap Err (read-refusal r)
 
-pub filler-values-tell : (r s : Filler) → filler_values r ≡ filler_values s → r ≡ s
+pub filler-values-tell : (r s : Result (Option Line) Refusal) → filler_values r ≡ filler_values s → r ≡ s
 filler-values-tell r s e = sym (read-filler r) ∙ ap read_filler e ∙ read-filler s
 
-abbrev read_caps : CapsValues → Caps
-read_caps v = cond (eqb v.count 0) (caps.Refused v.refusal v.bend) (cond (eqb v.count 1) (caps.One v.first) (caps.Two v.first v.second))
+abbrev read_caps : CapsValues → Result Caps Refusal
+read_caps v = cond (eqb v.count 0) (Err (read_refusal v.refusal v.bend)) (Ok (cond (eqb v.count 1) (caps.One v.first) (caps.Two v.first v.second)))
 
-read-caps : (r : Caps) → read_caps (caps_values r) ≡ r
+read-caps : (r : Result Caps Refusal) → read_caps (caps_values r) ≡ r
 unfolding caps_values
-read-caps (caps.One l) = refl
-read-caps (caps.Two l m) = refl
-read-caps (caps.Refused n b) = refl
+read-caps (Ok (caps.One l)) = refl
+read-caps (Ok (caps.Two l m)) = refl
+read-caps (Err r) = ap Err (read-refusal r)
 
-pub caps-values-tell : (r s : Caps) → caps_values r ≡ caps_values s → r ≡ s
+pub caps-values-tell : (r s : Result Caps Refusal) → caps_values r ≡ caps_values s → r ≡ s
 caps-values-tell r s e = sym (read-caps r) ∙ ap read_caps e ∙ read-caps s
+
+abbrev read_degenerate : Judged → Result Bool Refusal
+read_degenerate v = cond (eqb v.refusal 0) (Ok v.degenerate) (Err (read_refusal v.refusal v.bend))
+
+read-degenerate : (r : Result Bool Refusal) → read_degenerate (degenerate_values r) ≡ r
+unfolding degenerate_values
+read-degenerate (Ok b) = refl
+read-degenerate (Err r) = rw (numbered r) (ap Err (read-refusal r))
+
+pub degenerate-values-tell : (r s : Result Bool Refusal) → degenerate_values r ≡ degenerate_values s → r ≡ s
+degenerate-values-tell r s e = sym (read-degenerate r) ∙ ap read_degenerate e ∙ read-degenerate s

@@ -20,11 +20,11 @@ use Rattle.intersection_params.specs.declared.Intersection.TheVariants.{At, Coli
 use Rattle.intersection_params.specs.Crossing.{crossing_of, nearly_colinear}
 use Rattle.intersection_params.specs.Words.{bend}
 use Rattle.intersection_params.proofs.Laws.{colinear-exactly}
-use Rattle.extents.specs.declared.Edges.{Edges}
+use Rattle.extents.specs.Sides.{Edges}
 use Rattle.extents.specs.Edges.{EdgesNear, extents_of}
 use Rattle.line_join.specs.declared.Kind.{Kind}
 use Rattle.line_join.specs.declared.Kind.TheVariants as kind
-use Rattle.line_join.specs.declared.Corners.{Corners}
+use Rattle.line_join.specs.Sides.{Corners}
 use Rattle.shapes.specs.Strokes.{Thin}
 use Rattle.line_join.specs.Miter.{miter_limit, reaches}
 use Rattle.line_join.specs.Join.{mended, meet, corners_of, ends_of, starts_of, outer, overlapping, alike, plain, cut, bent_at, bent_left, bent_of, start_of, end_of, join_of}

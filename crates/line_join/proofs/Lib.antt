@@ -2,7 +2,6 @@ pub mod Answers
 pub mod Laws
 pub mod Meeting
 pub mod Named
-pub mod Others
 pub mod Room
 pub mod Standing
 pub mod Traced

@@ -16,8 +16,8 @@ use Rattle.intersection_params.specs.declared.Intersection.TheVariants.{At, Coli
 use Rattle.intersection_params.specs.Crossing.{crossing_of, nearly_colinear}
 use Rattle.intersection_params.specs.Words.{IsDrawn}
 use Rattle.intersection_params.proofs.Laws.{one_side, colinear-exactly, drawn-exactly}
-use Rattle.extents.specs.declared.Edges.{Edges}
-use Rattle.line_join.specs.declared.Corners.{Corners}
+use Rattle.extents.specs.Sides.{Edges}
+use Rattle.line_join.specs.Sides.{Corners}
 use Rattle.line_join.specs.Join.{mended, meet, overlapping}
 use Rattle.line_join.specs.Words.{Bend, Ended, inner_edge, Outward}
 

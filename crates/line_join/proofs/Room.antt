@@ -1,13 +1,12 @@
 -- What inner functions ask is met: widths, edges, crossings and corners are small. Assumes nothing.
-use mathlib.Core.Path.{◌≡◌}
+use mathlib.Core.Path.{◌≡◌, subst}
 use mathlib.Core.Logic.{◌↔◌}
 use mathlib.Core.Bool.{Bool, true, false, cond}
 use Prim.Native.Nat.{ℕ, ◌+◌, ◌*◌, ◌≤◌}
 use lib.Dec.{T, lit≤}
 use lib.IntN.{ℤ, pos}
-use mir.Syntax.{w64}
-use mir.Val.{to_z, of_z}
-use Rattle.whole.specs.Number.{Within, eq_z}
+use Rattle.std.specs.Prelude.{Option, Some, None}
+use Rattle.whole.specs.Number.{eq_z}
 use Rattle.whole.specs.Rounded.{rounded}
 use Rattle.whole.proofs.Bounds.{within_more}
 use Rattle.whole.proofs.Squares.{rounded-within}
@@ -17,10 +16,10 @@ use Rattle.shapes.specs.declared.Line.{Line}
 use Rattle.shapes.specs.declared.Side.{Side}
 use Rattle.shapes.specs.declared.Side.TheVariants.{Left, Right}
 use Rattle.shapes.specs.declared.Offset.{Offset}
-use Rattle.shapes.specs.Limits.{corner_limit, width_limit, line_limit, stroke_limit, thick_limit}
+use Rattle.shapes.specs.Limits.{corner_limit, width_limit, line_limit, stroke_limit}
 use Rattle.shapes.specs.Shape.{Near, LineNear, point_of, line_of, is_near}
-use Rattle.shapes.proofs.Laws.{near-more, line-near-more, line-of-near, near-iff}
-use Rattle.shapes.proofs.Widths.{thin-held, thin-within}
+use Rattle.shapes.proofs.Laws.{near-more, line-of-near, near-iff}
+use Rattle.shapes.proofs.Widths.{thin-within}
 use Rattle.intersection_params.specs.declared.Intersection.{Intersection}
 use Rattle.intersection_params.specs.declared.Intersection.TheVariants.{At, Colinear}
 use Rattle.intersection_params.specs.Crossing.{solution_of, side_of, drawn_of, crossing_of, nearly_colinear}
@@ -32,19 +31,12 @@ use Rattle.line_join.specs.Miter.{corner_room}
 use Rattle.line_join.specs.declared.Kind.{Kind}
 use Rattle.line_join.specs.declared.Kind.TheVariants as kind
 use Rattle.line_join.specs.declared.Kind.TheVariants.{Miter, Bevel, Degenerate, Start, End}
-use Rattle.line_join.specs.declared.Corners.{Corners}
+use Rattle.line_join.specs.Sides.{Corners}
 use Rattle.line_join.specs.declared.Join.{Join}
-use Rattle.line_join.specs.declared.Filler.{Filler}
-use Rattle.line_join.specs.declared.Filler.TheVariants as filler
-use Rattle.line_join.specs.declared.Filler.TheVariants.{Filled, Nothing}
 use Rattle.line_join.specs.Join.{mended, meet, outer}
 use Rattle.line_join.specs.Caps.{CornersNear, JoinNear, is_corners_near, is_join_near, between, filler_by, filler_of}
 
 -- ---- edges: the one place that cites how far they lie from a line
-
--- what `extents` asks
-pub extents-room : {a b : Point} {w : ℤ} → Near stroke_limit a → Near stroke_limit b → Thin w → LineNear line_limit (line_of a b) × Within (to_z w64 (of_z w64 w)) thick_limit
-extents-room p q h = (line-near-more (line-of-near p q) (lit≤ tt), rw (thin-held h).is (within_more (thin-within h) (lit≤ tt)))
 
 -- of a line between points within k
 pub edges-within : {j k : ℕ} {a b : Point} {w : ℤ} (o : Offset) → k ≤ line_limit → k + (4 * width_limit + 3) ≤ j → Near k a → Near k b → Thin w → EdgesNear j (extents_of (line_of a b) w o)
@@ -115,10 +107,9 @@ pub join-room : (j : Join) → is_join_near corner_limit j ≡ true → JoinNear
 join-room j e = join-near-more ((join-near-iff corner_limit j).0 e) (lit≤ tt)
 
 -- the filler line, if there is one, lies as near as the corners
-abbrev pub FillerNear : ℕ → Filler → Type 0
-FillerNear k (Filled l) = LineNear k l
-FillerNear k Nothing = T true
-FillerNear k (filler.Refused n b) = T true
+abbrev pub FillerNear : ℕ → Option Line → Type 0
+FillerNear k (Some l) = LineNear k l
+FillerNear k None = T true
 
 between-near : {k : ℕ} (s : Side) {e t : Corners} → CornersNear k e → CornersNear k t → LineNear k (between s e t)
 between-near s p q = line-of-near (outer-near s p) (outer-near s q)
@@ -134,3 +125,6 @@ filler-by End p q = tt
 pub filler-near : {k : ℕ} {j : Join} → JoinNear k j → FillerNear k (filler_of j)
 unfolding filler_of
 filler-near {j} h = filler-by j.kind h.ending_near h.starting_near
+
+pub some-filler-near : {k : ℕ} {j : Join} {l : Line} → JoinNear k j → filler_of j ≡ Some l → LineNear k l
+some-filler-near {k} near is = subst (FillerNear k) is (filler-near near)

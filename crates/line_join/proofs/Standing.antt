@@ -9,9 +9,9 @@ use Rattle.shapes.specs.declared.Offset.{Offset}
 use Rattle.shapes.specs.Shape.{line_of}
 use Rattle.intersection_params.specs.declared.Intersection.{Intersection}
 use Rattle.intersection_params.specs.declared.Intersection.TheVariants.{At, Colinear}
-use Rattle.extents.specs.declared.Edges.{Edges}
+use Rattle.extents.specs.Sides.{Edges}
 use Rattle.extents.specs.Edges.{extents_of}
-use Rattle.line_join.specs.declared.Corners.{Corners}
+use Rattle.line_join.specs.Sides.{Corners}
 use Rattle.line_join.specs.declared.Join.{Join}
 use Rattle.line_join.specs.Miter.{reaches}
 use Rattle.line_join.specs.Join.{meet, corners_of, outer, overlapping, bent_at, bent_left, bent_of, start_of, end_of, join_of}

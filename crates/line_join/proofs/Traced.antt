@@ -19,11 +19,11 @@ use Rattle.intersection_params.specs.declared.Intersection.TheVariants.{At, Coli
 use Rattle.intersection_params.specs.Crossing.{solution_of, crossing_of, divisions_of, nearly_colinear}
 use Rattle.intersection_params.specs.Words.{TrueCrossing, whole_point}
 use Rattle.intersection_params.proofs.Divisions.{divisions-exactly, exact-exactly}
-use Rattle.extents.specs.declared.Edges.{Edges}
+use Rattle.extents.specs.Sides.{Edges}
 use Rattle.extents.specs.Edges.{extents_of}
 use Rattle.line_join.specs.declared.Kind.{Kind}
 use Rattle.line_join.specs.declared.Kind.TheVariants as kind
-use Rattle.line_join.specs.declared.Corners.{Corners}
+use Rattle.line_join.specs.Sides.{Corners}
 use Rattle.line_join.specs.declared.Origin.{Origin}
 use Rattle.line_join.specs.declared.Origin.TheVariants.{Crossing, NotACrossing}
 use Rattle.line_join.specs.declared.Join.{Join}

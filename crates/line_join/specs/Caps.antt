@@ -1,14 +1,12 @@
 -- 01, line_join.rs: bounds of a join's corners, its filler line and its cap lines.
-use Rattle.std.specs.Prelude.{Bool, true, false, ◌&&◌, ℕ}
+use Rattle.std.specs.Prelude.{Bool, true, false, ◌&&◌, ℕ, Option, Some, None}
 use Rattle.shapes.specs.declared.Line.{Line}
 use Rattle.shapes.specs.declared.Side.{Side}
 use Rattle.shapes.specs.Shape.{Near, is_near, line_of, midpoint}
 use Rattle.line_join.specs.declared.Kind.{Kind}
 use Rattle.line_join.specs.declared.Kind.TheVariants.{Miter, Bevel, Degenerate, Colinear, Start, End}
-use Rattle.line_join.specs.declared.Corners.{Corners}
+use Rattle.line_join.specs.Sides.{Corners}
 use Rattle.line_join.specs.declared.Join.{Join}
-use Rattle.line_join.specs.declared.Filler.{Filler}
-use Rattle.line_join.specs.declared.Filler.TheVariants.{Filled, Nothing, Refused}
 use Rattle.line_join.specs.declared.Caps.{Caps}
 use Rattle.line_join.specs.declared.Caps.TheVariants.{One, Two}
 use Rattle.line_join.specs.Join.{outer}
@@ -38,24 +36,23 @@ abbrev pub between : Side → Corners → Corners → Line
 between s ending starting = line_of (outer s ending) (outer s starting)
 
 -- a bevel and a degenerate join have one, on the outer side
-abbrev pub filler_by : Kind → Corners → Corners → Filler
-filler_by Miter ending starting = Nothing
-filler_by (Bevel s) ending starting = Filled (between s ending starting)
-filler_by (Degenerate s) ending starting = Filled (between s ending starting)
-filler_by Colinear ending starting = Nothing
-filler_by Start ending starting = Nothing
-filler_by End ending starting = Nothing
+abbrev pub filler_by : Kind → Corners → Corners → Option Line
+filler_by Miter ending starting = None
+filler_by (Bevel s) ending starting = Some (between s ending starting)
+filler_by (Degenerate s) ending starting = Some (between s ending starting)
+filler_by Colinear ending starting = None
+filler_by Start ending starting = None
+filler_by End ending starting = None
 
-unfoldable pub filler_of : Join → Filler
+unfoldable pub filler_of : Join → Option Line
 filler_of j = filler_by j.kind j.ending j.starting
 
 -- ---- the cap lines
 
 -- one line from the left to the right corner, or two by way of the filler line's midpoint
-abbrev pub capped_by : Filler → Corners → Caps
-capped_by (Filled l) c = Two (line_of c.left (midpoint l)) (line_of (midpoint l) c.right)
-capped_by Nothing c = One (line_of c.left c.right)
-capped_by (Refused n b) c = One (line_of c.left c.right)
+abbrev pub capped_by : Option Line → Corners → Caps
+capped_by (Some l) c = Two (line_of c.left (midpoint l)) (line_of (midpoint l) c.right)
+capped_by None c = One (line_of c.left c.right)
 
 unfoldable pub cap_of : Join → Corners → Caps
 cap_of j c = capped_by (filler_of j) c

@@ -1,5 +1,5 @@
 -- 01, line_join.rs: the joins of two thick lines, from their edges; with 02's K4.
-use Rattle.std.specs.Prelude.{Bool, cond, ℤ}
+use Rattle.std.specs.Prelude.{Bool, cond, ℤ, Option, Some, None}
 use Rattle.shapes.specs.declared.Point.{Point}
 use Rattle.shapes.specs.declared.Line.{Line}
 use Rattle.shapes.specs.declared.Side.{Side}
@@ -10,11 +10,12 @@ use Rattle.linear_equation.specs.Equation.{equation_of, is_on_side}
 use Rattle.intersection_params.specs.declared.Intersection.{Intersection}
 use Rattle.intersection_params.specs.declared.Intersection.TheVariants.{At, Colinear}
 use Rattle.intersection_params.specs.Crossing.{crossing_of, nearly_colinear}
-use Rattle.extents.specs.declared.Edges.{Edges}
+use Rattle.extents.specs.Sides.{Edges}
 use Rattle.extents.specs.Edges.{extents_of}
 use Rattle.line_join.specs.declared.Kind.{Kind}
 use Rattle.line_join.specs.declared.Kind.TheVariants as kind
-use Rattle.line_join.specs.declared.Corners.{Corners}
+use Rattle.line_join.specs.Sides.{Corners}
+use Rattle.line_join.specs.declared.Origin.{Origin}
 use Rattle.line_join.specs.declared.Join.{Join}
 use Rattle.line_join.specs.declared.bend.Meeting.{Meeting}
 use Rattle.line_join.specs.Miter.{reaches}
@@ -32,8 +33,12 @@ unfoldable pub meet : Line → Line → Intersection
 meet second first = mended (nearly_colinear second first) first.end (crossing_of second first)
 
 -- with where it comes from
-abbrev pub meeting_of : Line → Line → Meeting
-meeting_of second first = record { found = meet second first; origin = origin_of second first }
+abbrev pub meeting_by : Intersection → Origin → Option Meeting
+meeting_by (At p s) o = Some (record { point = p; side = s; origin = o })
+meeting_by Colinear o = None
+
+abbrev pub meeting_of : Line → Line → Option Meeting
+meeting_of second first = meeting_by (meet second first) (origin_of second first)
 
 -- ---- corners
 

@@ -5,3 +5,4 @@ pub mod Miter
 pub mod Origins
 pub mod Standing
 pub mod Words
+pub mod Sides

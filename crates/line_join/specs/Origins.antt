@@ -7,12 +7,12 @@ use Rattle.shapes.specs.declared.Divisions.{Divisions}
 use Rattle.intersection_params.specs.declared.Intersection.{Intersection}
 use Rattle.intersection_params.specs.declared.Intersection.TheVariants as intersection
 use Rattle.intersection_params.specs.Crossing.{solution_of, crossing_of, divisions_of, nearly_colinear}
-use Rattle.extents.specs.declared.Edges.{Edges}
+use Rattle.extents.specs.Sides.{Edges}
 use Rattle.line_join.specs.declared.Kind.{Kind}
 use Rattle.line_join.specs.declared.Kind.TheVariants.{Miter, Bevel, Degenerate, Colinear, Start, End}
 use Rattle.line_join.specs.declared.Origin.{Origin}
 use Rattle.line_join.specs.declared.Origin.TheVariants.{Crossing, NotACrossing}
-use Rattle.line_join.specs.declared.Origins.{Origins}
+use Rattle.line_join.specs.Sides.{Origins}
 use Rattle.line_join.specs.declared.Join.{Join}
 
 abbrev pub origins_of : Origin → Origin → Origins

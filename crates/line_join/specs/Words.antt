@@ -10,13 +10,13 @@ use Rattle.shapes.specs.Shape.{minus, squared_length}
 use Rattle.intersection_params.specs.declared.Intersection.TheVariants.{At}
 use Rattle.intersection_params.specs.Crossing.{nearly_colinear}
 use Rattle.intersection_params.specs.Words.{bend, IsDrawn, IsDivided}
-use Rattle.extents.specs.declared.Edges.{Edges}
+use Rattle.extents.specs.Sides.{Edges}
 use Rattle.line_join.specs.declared.Kind.{Kind}
 use Rattle.line_join.specs.declared.Kind.TheVariants.{Miter, Bevel, Degenerate, Colinear, Start, End}
-use Rattle.line_join.specs.declared.Corners.{Corners}
+use Rattle.line_join.specs.Sides.{Corners}
 use Rattle.line_join.specs.declared.Origin.{Origin}
 use Rattle.line_join.specs.declared.Origin.TheVariants.{Crossing, NotACrossing}
-use Rattle.line_join.specs.declared.Origins.{Origins}
+use Rattle.line_join.specs.Sides.{Origins}
 use Rattle.line_join.specs.declared.Join.{Join}
 use Rattle.line_join.specs.Miter.{miter_limit}
 use Rattle.line_join.specs.Join.{meet, outer, overlapping}

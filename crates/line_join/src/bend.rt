@@ -17,15 +17,16 @@ use intersection_params::inner::{divisions, drawn, nearly_colinear, solve};
 use linear_equation::inner::{check_side, from_line};
 use shapes::{Line, Point, Side};
 
-/// What two edges meet at: their crossing or the end of the first of them, or nothing where they are parallel; and where that
-/// comes from.
-#[derive(Clone, Copy)]
+/// What two edges meet at: their crossing or the end of the first of them, the outer side, and where the point comes from.
+#[derive(Clone, Copy, Debug, PartialEq, Eq)]
 pub struct Meeting {
-    pub found: Intersection,
+    pub point: Point,
+    pub side: Side,
     pub origin: Origin,
 }
 
 /// The join of two thick lines that meet at `mid`, from their edges.
+#[tactic(auto, unfolding(crate::specs::Join::bent_of))]
 pub fn bent(first: Edges, second: Edges, mid: Point, width: i64) -> Join
     requires edges_near { EdgesNear line_limit first }
     requires edges_near_2 { EdgesNear line_limit second }
@@ -33,24 +34,22 @@ pub fn bent(first: Edges, second: Edges, mid: Point, width: i64) -> Join
     requires thin { Thin width }
     ensures { result ≡ traced_of first second mid width }
 {
-    let on_left = meet(second.left, first.left);
-    let on_right = meet(second.right, first.right);
-    let found_left = on_left.found;
-    let found_right = on_right.found;
-    let left_origin = on_left.origin;
-    let right_origin = on_right.origin;
-    let Intersection::At(left, side) = found_left else {
+    let Some(left) = meet(second.left, first.left) else {
         return at_edges(Kind::Colinear, first, second);
     };
-    let Intersection::At(right, _) = found_right else {
+    let Some(right) = meet(second.right, first.right) else {
         return at_edges(Kind::Colinear, first, second);
     };
-    let crossing = Corners { left, right };
-    let join = bent_at(side, crossing, first, second, mid, width);
-    traced(join, left_origin, right_origin)
+    let crossing = Corners {
+        left: left.point,
+        right: right.point,
+    };
+    let join = bent_at(left.side, crossing, first, second, mid, width);
+    traced(join, left.origin, right.origin)
 }
 
 /// The same where the left and the right edges meet at the two corners of `crossing`; its origins are not set yet.
+#[tactic(auto, unfolding(crate::specs::Join::bent_at))]
 pub fn bent_at(
     side: Side,
     crossing: Corners,
@@ -76,47 +75,42 @@ pub fn bent_at(
     bevel(side, crossing, first, second)
 }
 
-/// Where two edges cross; where they run so nearly alike that rounding spoils the crossing, the end of the first edge.
-pub fn meet(second: Line, first: Line) -> Meeting
+/// Where two edges cross, if they are not parallel; where they run so nearly alike that rounding spoils the crossing, the end
+/// of the first edge.
+#[tactic(auto, unfolding(crate::specs::Join::meet, crate::specs::Origins::origin_of))]
+pub fn meet(second: Line, first: Line) -> Option<Meeting>
     requires line_near { LineNear line_limit second }
     requires line_near_2 { LineNear line_limit first }
     ensures { result ≡ meeting_of second first }
 {
-    let end = first.end;
     let solution = solve(second, first);
     let Intersection::At(point, side) = drawn(solution) else {
-        return Meeting {
-            found: Intersection::Colinear,
-            origin: Origin::NotACrossing,
-        };
+        return None;
     };
     if nearly_colinear(second, first) {
-        return Meeting {
-            found: Intersection::At(end, side),
+        return Some(Meeting {
+            point: first.end,
+            side,
             origin: Origin::NotACrossing,
-        };
+        });
     }
-    Meeting {
-        found: Intersection::At(point, side),
+    Some(Meeting {
+        point,
+        side,
         origin: Origin::Crossing(divisions(solution)),
-    }
+    })
 }
 
 /// Whether the inner edge of the second line ends on the outer side of the first line's inner edge, or on it.
+#[tactic(auto, using(linear_equation::proofs::Laws::tame), unfolding(crate::specs::Join::overlapping))]
 pub fn overlap(side: Side, first: Edges, second: Edges) -> bool
     requires edges_near { EdgesNear line_limit first }
     requires edges_near_2 { EdgesNear line_limit second }
     ensures { result ≡ overlapping side first second }
 {
     match side {
-        Side::Left => {
-            let edge = second.right;
-            check_side(from_line(first.right), edge.end, Side::Left)
-        }
-        Side::Right => {
-            let edge = second.left;
-            check_side(from_line(first.left), edge.end, Side::Right)
-        }
+        Side::Left => check_side(from_line(first.right), second.right.end, Side::Left),
+        Side::Right => check_side(from_line(first.left), second.left.end, Side::Right),
     }
 }
 
@@ -164,16 +158,14 @@ pub fn cut_off(side: Side, edge: Corners, crossing: Corners) -> Corners
     ensures { result ≡ cut_off side edge crossing }
 {
     match side {
-        Side::Left => {
-            let left = edge.left;
-            let right = crossing.right;
-            Corners { left, right }
-        }
-        Side::Right => {
-            let left = crossing.left;
-            let right = edge.right;
-            Corners { left, right }
-        }
+        Side::Left => Corners {
+            left: edge.left,
+            right: crossing.right,
+        },
+        Side::Right => Corners {
+            left: crossing.left,
+            right: edge.right,
+        },
     }
 }
 
@@ -191,20 +183,18 @@ pub fn outer_corner(side: Side, corners: Corners) -> Point
 pub fn ends(edges: Edges) -> Corners
     ensures { result ≡ ends_of edges }
 {
-    let a = edges.left;
-    let b = edges.right;
-    let left = a.end;
-    let right = b.end;
-    Corners { left, right }
+    Corners {
+        left: edges.left.end,
+        right: edges.right.end,
+    }
 }
 
 /// Where the edges of a line start.
 pub fn starts(edges: Edges) -> Corners
     ensures { result ≡ starts_of edges }
 {
-    let a = edges.left;
-    let b = edges.right;
-    let left = a.start;
-    let right = b.start;
-    Corners { left, right }
+    Corners {
+        left: edges.left.start,
+        right: edges.right.start,
+    }
 }

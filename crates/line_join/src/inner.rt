@@ -7,13 +7,13 @@ ghost use Rattle.line_join.specs.Join.{start_of, end_of, join_of};
 ghost use Rattle.line_join.specs.Caps.{JoinNear, is_corners_near, is_join_near, between, filler_of, cap_of, start_caps_of, end_caps_of, is_degenerate};
 
 use crate::bend::{bent, ends, outer_corner, same_corners, starts};
-use crate::{Caps, Corners, Filler, Join, Kind};
+use crate::{Caps, Corners, Join, Kind};
 use extents::inner::extents;
 use shapes::inner::{is_near, midpoint};
 use shapes::{Line, Offset, Point, Side};
-use whole::inner::both;
 
 /// The join at which a route from `a` to `b` begins.
+#[tactic(auto, unfolding(crate::specs::Join::start_of))]
 pub fn start(a: Point, b: Point, width: i64, offset: Offset) -> Join
     requires near { Near stroke_limit a }
     requires near_2 { Near stroke_limit b }
@@ -25,6 +25,7 @@ pub fn start(a: Point, b: Point, width: i64, offset: Offset) -> Join
 }
 
 /// The join at which a route that comes from `a` ends, at `b`.
+#[tactic(auto, unfolding(crate::specs::Join::end_of))]
 pub fn end(a: Point, b: Point, width: i64, offset: Offset) -> Join
     requires near { Near stroke_limit a }
     requires near_2 { Near stroke_limit b }
@@ -36,6 +37,7 @@ pub fn end(a: Point, b: Point, width: i64, offset: Offset) -> Join
 }
 
 /// The join at `b` of the lines from `a` to `b` and from `b` to `c`.
+#[tactic(auto, unfolding(crate::specs::Join::join_of))]
 pub fn from_points(a: Point, b: Point, c: Point, width: i64, offset: Offset) -> Join
     requires near { Near stroke_limit a }
     requires near_2 { Near stroke_limit b }
@@ -49,31 +51,31 @@ pub fn from_points(a: Point, b: Point, c: Point, width: i64, offset: Offset) -> 
 }
 
 /// Whether all four corners of a join are within `limit`: if not, it is refused with 5.
+#[tactic(auto, unfolding(crate::specs::Caps::is_join_near))]
 pub fn is_join_near(join: Join, limit: u32) -> bool
     ensures { result ≡ is_join_near limit join }
 {
-    both(
-        are_corners_near(join.ending, limit),
-        are_corners_near(join.starting, limit),
-    )
+    are_corners_near(join.ending, limit) && are_corners_near(join.starting, limit)
 }
 
 /// Whether two corners are within `limit`.
+#[tactic(auto, unfolding(crate::specs::Caps::is_corners_near))]
 fn are_corners_near(corners: Corners, limit: u32) -> bool
     ensures { result ≡ is_corners_near limit corners }
 {
-    both(is_near(corners.left, limit), is_near(corners.right, limit))
+    is_near(corners.left, limit) && is_near(corners.right, limit)
 }
 
-/// The filler line of a bevel or of a degenerate join; never a refusal.
-pub fn filler(join: Join) -> Filler
+/// The filler line of a bevel or of a degenerate join.
+#[tactic(auto, unfolding(crate::specs::Caps::filler_of))]
+pub fn filler(join: Join) -> Option<Line>
     ensures { result ≡ filler_of join }
 {
-    let kind = join.kind;
-    match kind {
-        Kind::Bevel(side) => Filler::Filled(outer_line(side, join.ending, join.starting)),
-        Kind::Degenerate(side) => Filler::Filled(outer_line(side, join.ending, join.starting)),
-        _ => Filler::Nothing,
+    match join.kind {
+        Kind::Bevel(side) | Kind::Degenerate(side) => {
+            Some(outer_line(side, join.ending, join.starting))
+        }
+        _ => None,
     }
 }
 
@@ -87,7 +89,8 @@ pub fn outer_line(side: Side, ending: Corners, starting: Corners) -> Line
     }
 }
 
-/// The lines that close the thick line that begins at a join; never a refusal.
+/// The lines that close the thick line that begins at a join.
+#[tactic(auto, unfolding(crate::specs::Caps::start_caps_of))]
 pub fn start_caps(join: Join) -> Caps
     requires { JoinNear line_limit join }
     ensures { result ≡ start_caps_of join }
@@ -95,7 +98,8 @@ pub fn start_caps(join: Join) -> Caps
     cap(join, join.starting)
 }
 
-/// The lines that close the thick line that ends at a join; never a refusal.
+/// The lines that close the thick line that ends at a join.
+#[tactic(auto, unfolding(crate::specs::Caps::end_caps_of))]
 pub fn end_caps(join: Join) -> Caps
     requires { JoinNear line_limit join }
     ensures { result ≡ end_caps_of join }
@@ -104,13 +108,13 @@ pub fn end_caps(join: Join) -> Caps
 }
 
 /// The lines from the left to the right of two corners: by way of the filler line's midpoint, if the join has such a line.
+#[tactic(auto, unfolding(crate::specs::Caps::cap_of))]
 pub fn cap(join: Join, corners: Corners) -> Caps
     requires { JoinNear line_limit join }
     ensures { result ≡ cap_of join corners }
 {
-    let left = corners.left;
-    let right = corners.right;
-    let Filler::Filled(line) = filler(join) else {
+    let Corners { left, right } = corners;
+    let Some(line) = filler(join) else {
         return Caps::One(Line {
             start: left,
             end: right,
@@ -133,9 +137,5 @@ pub fn cap(join: Join, corners: Corners) -> Caps
 pub fn is_degenerate(join: Join) -> bool
     ensures { result ≡ is_degenerate join.kind }
 {
-    let kind = join.kind;
-    match kind {
-        Kind::Degenerate(_) => true,
-        _ => false,
-    }
+    matches!(join.kind, Kind::Degenerate(_))
 }

@@ -9,6 +9,7 @@ use shapes::Point;
 use whole::inner::magnitude;
 
 /// The greatest squared length of a miter for a width: the square of twice the width.
+#[tactic(auto, unfolding(crate::specs::Miter::miter_limit))]
 pub fn limit(width: i64) -> i64
     requires { Thin width }
     ensures { result ≡ miter_limit width }
@@ -28,10 +29,7 @@ pub fn is_short(mid: Point, tip: Point, width: i64) -> bool
     let dx = tip.x - mid.x;
     let dy = tip.y - mid.y;
     let most = 2 * width;
-    if most < magnitude(dx) {
-        return false;
-    }
-    if most < magnitude(dy) {
+    if most < magnitude(dx) || most < magnitude(dy) {
         return false;
     }
     dx * dx + dy * dy <= limit(width)

@@ -8,7 +8,5 @@ use crate::Join;
 pub fn standing_at(join: Join, position: usize) -> Join
     ensures { result ≡ standing_at position join }
 {
-    let mut placed = join;
-    placed.position = position;
-    placed
+    Join { position, ..join }
 }

@@ -9,16 +9,9 @@ use shapes::Side;
 pub fn traced(join: Join, left: Origin, right: Origin) -> Join
     ensures { result ≡ traced_by left right join }
 {
-    let kind = join.kind;
-    let ending = join.ending;
-    let starting = join.starting;
-    let origins = origins(kind, left, right);
     Join {
-        kind,
-        origins,
-        position: join.position,
-        ending,
-        starting,
+        origins: origins(join.kind, left, right),
+        ..join
     }
 }
 

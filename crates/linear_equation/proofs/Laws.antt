@@ -40,6 +40,9 @@ pub near-point : (l : Line) (p : Point) → are_inside crossing_limit l p ≡ tr
 unfolding are_inside
 near-point l p e = near-more (true-near crossing_limit p (and_right (is_line_near crossing_limit l) (is_near crossing_limit p) e)) (lit≤ tt)
 
+-- what lets the entries call what asks for bounds
+pub ruleset inside = (line-room, near-line, near-point, tame)
+
 -- ---- what the distance says
 
 -- the distance of p is the determinant of the line's direction and the way from its start to p

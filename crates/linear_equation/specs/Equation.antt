@@ -1,17 +1,15 @@
 -- 01, linear_equation.rs: the equation of a line, the distance of a point, the side test, and the entries' answers.
-use Rattle.std.specs.Prelude.{Bool, false, ◌&&◌, cond, ℕ, ◌^◌, ℤ, pos, ◌-ℤ◌}
+use Rattle.std.specs.Prelude.{Bool, false, ◌&&◌, cond, ℕ, ◌^◌, ℤ, pos, ◌-ℤ◌, Result, Ok, Err}
 use Rattle.std.specs.Int.Signed.{le_z}
 use Rattle.whole.specs.Number.{Within}
 use Rattle.shapes.specs.declared.Point.{Point}
 use Rattle.shapes.specs.declared.Line.{Line}
 use Rattle.shapes.specs.declared.Side.{Side}
 use Rattle.shapes.specs.declared.Side.TheVariants.{Left, Right}
-use Rattle.shapes.specs.Refusals.{coordinate_refused}
+use Rattle.shapes.specs.declared.refusals.Refusal.{Refusal}
+use Rattle.shapes.specs.Refusals.{coordinate_refused, number_of}
 use Rattle.shapes.specs.Shape.{Near, point_of, is_near, is_line_near, quarter_turn, dot_product, delta}
 use Rattle.linear_equation.specs.declared.LinearEquation.{LinearEquation}
-use Rattle.linear_equation.specs.declared.Equated.{Equated}
-use Rattle.linear_equation.specs.declared.Measured.{Measured}
-use Rattle.linear_equation.specs.declared.Tested.{Tested}
 
 -- the normal of a line is its delta turned by W1, and its distance from (0,0) is its start's dot product with the normal
 unfoldable pub equation_of : Line → LinearEquation
@@ -33,7 +31,31 @@ pub record Tame (e : LinearEquation) : Type 0 where
   pub normal_near : Near (2 ^ 15) e.normal
   pub distance_within : Within e.distance (2 ^ 30)
 
--- ---- the entries' answers, for a limit k: refusal 4 for a coordinate beyond it, and then 0 in every other field
+-- ---- the entries' answers as numbers and values, for a limit k: refusal 4 for a coordinate beyond it, and then 0 in every other field
+
+pub record Equated : Type 0 where
+  pub refusal : ℕ
+  pub equation : LinearEquation
+
+pub record Measured : Type 0 where
+  pub refusal : ℕ
+  pub distance : ℤ
+
+pub record Tested : Type 0 where
+  pub refusal : ℕ
+  pub holds : Bool
+
+abbrev pub equation_values : Result LinearEquation Refusal → Equated
+equation_values (Ok e) = record { refusal = 0; equation = e }
+equation_values (Err r) = record { refusal = number_of r; equation = record { normal = point_of (pos 0) (pos 0); distance = pos 0 } }
+
+abbrev pub distance_values : Result ℤ Refusal → Measured
+distance_values (Ok d) = record { refusal = 0; distance = d }
+distance_values (Err r) = record { refusal = number_of r; distance = pos 0 }
+
+abbrev pub side_values : Result Bool Refusal → Tested
+side_values (Ok b) = record { refusal = 0; holds = b }
+side_values (Err r) = record { refusal = number_of r; holds = false }
 
 unfoldable pub equation_answer : ℕ → Line → Equated
 equation_answer k l =

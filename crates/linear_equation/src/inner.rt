@@ -9,6 +9,7 @@ use shapes::inner::{delta, dot_product, quarter_turn};
 use shapes::{Line, Point, Side};
 
 /// The equation of a line.
+#[tactic(auto, unfolding(crate::specs::Equation::equation_of))]
 pub fn from_line(line: Line) -> LinearEquation
     requires { LineNear line_limit line }
     ensures { result ≡ equation_of line }
@@ -19,6 +20,7 @@ pub fn from_line(line: Line) -> LinearEquation
 }
 
 /// How far a point lies from the line of an equation.
+#[tactic(auto, unfolding(crate::specs::Equation::distance_of))]
 pub fn distance(equation: LinearEquation, point: Point) -> i64
     requires tame { Tame equation }
     requires near { Near line_limit point }
@@ -28,6 +30,7 @@ pub fn distance(equation: LinearEquation, point: Point) -> i64
 }
 
 /// Whether a point lies on the given side of the line of an equation; on the line it lies on both.
+#[tactic(auto, unfolding(crate::specs::Equation::is_on_side))]
 pub fn check_side(equation: LinearEquation, point: Point, side: Side) -> bool
     requires tame { Tame equation }
     requires near { Near line_limit point }

@@ -4,17 +4,17 @@
 ghost use Rattle.std.specs.Prelude.{◌≡◌};
 ghost use Rattle.shapes.specs.Limits.{crossing_limit};
 ghost use Rattle.linear_equation.specs.Equation.{are_inside, equation_answer, distance_answer, side_answer};
+ghost use Rattle.linear_equation.specs.Equation.{equation_values, distance_values, side_values};
 
 pub mod inner; // inner.rt: the same without the tests
 
 use shapes::inner::{is_line_near, is_near};
 use shapes::limits::CROSSING;
-use shapes::refusals::COORDINATE;
+use shapes::refusals::Refusal;
 use shapes::{Line, Point, Side};
-use whole::inner::both;
 
 /// A line as those points p at which the dot product of p and `normal` is `distance`.
-#[derive(Clone, Copy)]
+#[derive(Clone, Copy, Debug, PartialEq, Eq)]
 pub struct LinearEquation {
     /// Perpendicular to the line, as long as the line.
     pub normal: Point,
@@ -22,83 +22,45 @@ pub struct LinearEquation {
     pub distance: i64,
 }
 
-/// The equation, or the refusal with zeros.
-#[derive(Clone, Copy)]
-pub struct Equated {
-    pub refusal: u64,
-    pub equation: LinearEquation,
-}
-
-/// The distance, or the refusal with 0.
-#[derive(Clone, Copy)]
-pub struct Measured {
-    pub refusal: u64,
-    pub distance: i64,
-}
-
-/// Whether a test holds, or the refusal with false.
-#[derive(Clone, Copy)]
-pub struct Tested {
-    pub refusal: u64,
-    pub holds: bool,
-}
-
 /// The equation of a line. A coordinate beyond 1,023 is refused with 4.
-pub fn equation(line: Line) -> Equated
-    ensures { result ≡ equation_answer crossing_limit line }
+#[tactic(auto, using(crate::proofs::Laws::inside), unfolding(crate::specs::Equation::equation_answer))]
+pub fn equation(line: Line) -> Result<LinearEquation, Refusal>
+    ensures { equation_values result ≡ equation_answer crossing_limit line }
 {
-    if is_line_near(line, CROSSING) {
-        return Equated {
-            refusal: 0,
-            equation: inner::from_line(line),
-        };
+    if !is_line_near(line, CROSSING) {
+        return Err(Refusal::Coordinate);
     }
-    Equated {
-        refusal: COORDINATE,
-        equation: LinearEquation {
-            normal: Point { x: 0, y: 0 },
-            distance: 0,
-        },
-    }
+    Ok(inner::from_line(line))
 }
 
 /// How far a point lies from a line, times the line's length: negative on the left, positive on the right, 0 on the line.
 /// A coordinate beyond 1,023 is refused with 4.
-pub fn distance(line: Line, point: Point) -> Measured
-    ensures { result ≡ distance_answer crossing_limit line point }
+#[tactic(auto, using(crate::proofs::Laws::inside), unfolding(crate::specs::Equation::distance_answer))]
+pub fn distance(line: Line, point: Point) -> Result<i64, Refusal>
+    ensures { distance_values result ≡ distance_answer crossing_limit line point }
 {
-    if are_near(line, point) {
-        return Measured {
-            refusal: 0,
-            distance: inner::distance(inner::from_line(line), point),
-        };
+    if !are_near(line, point) {
+        return Err(Refusal::Coordinate);
     }
-    Measured {
-        refusal: COORDINATE,
-        distance: 0,
-    }
+    Ok(inner::distance(inner::from_line(line), point))
 }
 
 /// Whether a point lies on the given side of a line. A point on the line lies on both sides; so does every point where the
 /// line's start is its end. A coordinate beyond 1,023 is refused with 4.
-pub fn check_side(line: Line, point: Point, side: Side) -> Tested
-    ensures { result ≡ side_answer crossing_limit line point side }
+#[tactic(auto, using(crate::proofs::Laws::inside), unfolding(crate::specs::Equation::side_answer))]
+pub fn check_side(line: Line, point: Point, side: Side) -> Result<bool, Refusal>
+    ensures { side_values result ≡ side_answer crossing_limit line point side }
 {
-    if are_near(line, point) {
-        return Tested {
-            refusal: 0,
-            holds: inner::check_side(inner::from_line(line), point, side),
-        };
+    if !are_near(line, point) {
+        return Err(Refusal::Coordinate);
     }
-    Tested {
-        refusal: COORDINATE,
-        holds: false,
-    }
+    Ok(inner::check_side(inner::from_line(line), point, side))
 }
 
 /// Whether a line and a point are both inside the limit.
+#[tactic(auto, unfolding(crate::specs::Equation::are_inside))]
 fn are_near(line: Line, point: Point) -> bool
     ensures { result ≡ are_inside crossing_limit line point }
 {
-    both(is_line_near(line, CROSSING), is_near(point, CROSSING))
+    is_line_near(line, CROSSING) && is_near(point, CROSSING)
 }

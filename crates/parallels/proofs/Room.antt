@@ -1,6 +1,8 @@
 -- What holds of each state leaves room: nothing that the code works out of it wraps. Assumes nothing.
 use mathlib.Core.Path.{◌≡◌}
-use mathlib.Core.Bool.{false}
+use mathlib.Core.Bool.{false, ◌&&◌}
+use borrow.Author.Rules.{rules}
+use Rattle.std.proofs.Common.{int_eq}
 use mathlib.Core.List.{◌∷◌}
 use Prim.Native.Nat.{ℕ, suc, ◌+◌, ◌^◌, ◌≤◌, ◌<◌}
 use native.Mathlib.Omega.{arith}
@@ -13,7 +15,7 @@ use Rattle.whole.proofs.Steps.{far-near, quotient-most}
 use Rattle.shapes.specs.declared.Point.{Point}
 use Rattle.shapes.specs.declared.Side.{Side}
 use Rattle.shapes.specs.Limits.{line_limit, thick_limit}
-use Rattle.shapes.specs.Shape.{Near}
+use Rattle.shapes.specs.Shape.{Near, same_point}
 use Rattle.shapes.specs.Strokes.{Thin}
 use Rattle.shapes.proofs.Widths.{thin-within}
 use Rattle.bresenham.specs.declared.Parameters.{Parameters}
@@ -98,3 +100,9 @@ begun-turn {plan} {s} h b e = parallels-turn thick_limit plan h b.origin s b.goi
 
 pub begun-start : {plan : Plan} {p : Point} → Sound thick_limit plan → Near line_limit p → Begun thick_limit plan (parallels_start plan p)
 begun-start {plan} {p} h near = record { origin = p; origin_near = near; going = going_start thick_limit plan h p }
+
+-- ---- two points are equal as `==` tells it
+
+pub equal-points : (a b : Point) → (int_eq a.x b.x && int_eq a.y b.y) ≡ same_point a b
+unfolding same_point
+equal-points a b = search rules

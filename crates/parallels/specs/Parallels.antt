@@ -20,7 +20,6 @@ use Rattle.parallels.specs.declared.Parallel.{Parallel}
 use Rattle.parallels.specs.declared.Bent.{Bent}
 use Rattle.parallels.specs.declared.Turn.{Turn}
 use Rattle.parallels.specs.declared.Taken.{Taken}
-use Rattle.parallels.specs.declared.Yielded.{Yielded}
 
 -- ---- sides
 
@@ -140,6 +139,10 @@ unfoldable pub grown : Plan → ℤ → Bool → ℤ
 grown plan acc extra = acc +ℤ cond extra plan.perpendicular.gain plan.perpendicular.loss
 
 -- a parallel that is handed out, and the state after it
+pub record Yielded : Type 0 where
+  pub parallel : Parallel
+  pub state : Parallels
+
 abbrev pub handed : Side → Taken → Flank → ℤ → Side → Yielded
 handed side t other acc next = record { parallel = record { side = side; start = t.start; extra = t.extra }; state = sided side t.flank other acc next }
 

@@ -4,12 +4,12 @@ ghost use Rattle.shapes.specs.Limits.{line_limit, thick_limit};
 ghost use Rattle.shapes.specs.Shape.{Near, LineNear};
 ghost use Rattle.whole.specs.Number.{Within};
 ghost use Rattle.bresenham.specs.Walk.{step_limit, Sized, Placed};
-ghost use Rattle.parallels.specs.Parallels.{first_side, swapped, falls, across as across_of, bent, normal_turn, extra_turn, turn_of, next_parallel, plan_along, plan_of, followed, flank_at, sided, parallels_start, is_done, grown, handed, yield_of, delta_limit, Sound, Ready, Begun};
+ghost use Rattle.parallels.specs.Parallels.{first_side, swapped, falls, across as across_of, bent, normal_turn, extra_turn, turn_of, next_parallel, plan_along, plan_of, followed, flank_at, sided, parallels_start, is_done, grown, yield_of, delta_limit, Sound, Ready, Begun};
 
-use crate::{Bent, Flank, Parallel, Parallels, Plan, Taken, Turn, Yielded};
+use crate::{Bent, Flank, Parallel, Parallels, Plan, Taken, Turn};
 use bresenham::inner::{decrease_error, increase_error, next_all, parameters_along, previous_all};
 use bresenham::{Bresenham, Met, Parameters};
-use shapes::inner::{delta, same_point, squared_length};
+use shapes::inner::{delta, squared_length};
 use shapes::{Line, Offset, Point, Side};
 
 /// The side that the first parallel is on.
@@ -17,9 +17,8 @@ pub fn first_side(offset: Offset) -> Side
     ensures { result ≡ first_side offset }
 {
     match offset {
-        Offset::None => Side::Right,
+        Offset::None | Offset::Right => Side::Right,
         Offset::Left => Side::Left,
-        Offset::Right => Side::Right,
     }
 }
 
@@ -39,7 +38,7 @@ pub fn is_falling(flip: bool, side: Side) -> bool
 {
     match side {
         Side::Left => flip,
-        Side::Right => { if flip { false } else { true } }
+        Side::Right => !flip,
     }
 }
 
@@ -81,14 +80,16 @@ pub fn bend(p: Parameters, falling: bool, error: i64) -> Bent
 pub fn normal_turn(met: Met, error: i64) -> Turn
     ensures { result ≡ normal_turn met error }
 {
-    let point = met.point;
-    let at = met.state;
-    let start = Bresenham { point, error };
-    let flank = Flank { at, error };
     let taken = Taken {
-        start,
+        start: Bresenham {
+            point: met.point,
+            error,
+        },
         extra: false,
-        flank,
+        flank: Flank {
+            at: met.state,
+            error,
+        },
     };
     Turn { taken, met: true }
 }
@@ -97,20 +98,16 @@ pub fn normal_turn(met: Met, error: i64) -> Turn
 pub fn extra_turn(met: Met, bent: Bent) -> Turn
     ensures { result ≡ extra_turn met bent }
 {
-    let point = met.point;
-    let at = met.state;
-    let start = Bresenham {
-        point,
-        error: bent.first,
-    };
-    let flank = Flank {
-        at,
-        error: bent.error,
-    };
     let taken = Taken {
-        start,
+        start: Bresenham {
+            point: met.point,
+            error: bent.first,
+        },
         extra: true,
-        flank,
+        flank: Flank {
+            at: met.state,
+            error: bent.error,
+        },
     };
     Turn {
         taken,
@@ -119,10 +116,10 @@ pub fn extra_turn(met: Met, bent: Bent) -> Turn
 }
 
 /// One step across a side, and the parallel that starts there: it is met where the step is Normal or the error carries.
-pub fn turn(plan: Plan, side: Side, flank: Flank) -> Turn
-    requires sound { Sound thick_limit plan }
-    requires ready { Ready plan side flank }
-    ensures { result ≡ turn_of plan side flank }
+pub fn turn(plan: &Plan, side: Side, flank: Flank) -> Turn
+    requires sound { Sound thick_limit plan.now }
+    requires ready { Ready plan.now side flank }
+    ensures { result ≡ turn_of plan.now side flank }
 {
     let met = across(plan.perpendicular, side, flank.at);
     if met.extra {
@@ -133,19 +130,18 @@ pub fn turn(plan: Plan, side: Side, flank: Flank) -> Turn
 }
 
 /// The next parallel of a side: a point that does not carry is passed over.
-pub fn next_parallel(plan: Plan, side: Side, flank: Flank) -> Taken
-    requires sound { Sound thick_limit plan }
-    requires ready { Ready plan side flank }
-    ensures { result ≡ next_parallel plan side flank }
+pub fn next_parallel(plan: &Plan, side: Side, flank: Flank) -> Taken
+    requires sound { Sound thick_limit plan.now }
+    requires ready { Ready plan.now side flank }
+    ensures { result ≡ next_parallel plan.now side flank }
 {
     let mut from = flank;
     loop {
         let turned = turn(plan, side, from);
-        let taken = turned.taken;
         if turned.met {
-            break taken;
+            break turned.taken;
         }
-        from = taken.flank;
+        from = turned.taken.flank;
     }
 }
 
@@ -159,18 +155,15 @@ pub fn plan_along(d: Point, width: i64, offset: Offset) -> Plan
     let turned = Point { x: d.y, y: -d.x };
     let perpendicular = parameters_along(turned);
     let twice = 2 * width;
-    let threshold = twice * twice * squared_length(d);
-    let major = parallel.major;
     let opposite = Point {
-        x: -major.x,
-        y: -major.y,
+        x: -parallel.major.x,
+        y: -parallel.major.y,
     };
-    let flip = same_point(perpendicular.minor, opposite);
     Plan {
         parallel,
         perpendicular,
-        threshold,
-        flip,
+        threshold: twice * twice * squared_length(d),
+        flip: perpendicular.minor == opposite,
         offset,
     }
 }
@@ -181,7 +174,7 @@ pub fn plan_of(line: Line, width: i64, offset: Offset) -> Plan
     requires within { Within width thick_limit }
     ensures { result ≡ plan_of line width offset }
 {
-    if same_point(line.start, line.end) {
+    if line.start == line.end {
         return plan_along(Point { x: 1, y: 0 }, width, offset);
     }
     plan_along(delta(line), width, offset)
@@ -193,20 +186,17 @@ pub fn follow(offset: Offset, side: Side) -> Side
 {
     match offset {
         Offset::None => swap(side),
-        Offset::Left => side,
-        Offset::Right => side,
+        Offset::Left | Offset::Right => side,
     }
 }
 
 /// One side of a state.
-pub fn flank_at(state: Parallels, side: Side) -> Flank
-    ensures { result ≡ flank_at side state }
+pub fn flank_at(state: &Parallels, side: Side) -> Flank
+    ensures { result ≡ flank_at side state.now }
 {
-    let left = state.left;
-    let right = state.right;
     match side {
-        Side::Left => left,
-        Side::Right => right,
+        Side::Left => state.left,
+        Side::Right => state.right,
     }
 }
 
@@ -232,68 +222,63 @@ pub fn sides(side: Side, this: Flank, other: Flank, accumulator: i64, next: Side
 
 /// The state before the first parallel of a line that starts at `point`: the line itself is skipped on the side that is
 /// not first.
-pub fn start(plan: Plan, point: Point) -> Parallels
-    requires sound { Sound thick_limit plan }
+pub fn start(plan: &Plan, point: Point) -> Parallels
+    requires sound { Sound thick_limit plan.now }
     requires near { Near line_limit point }
-    ensures { result ≡ parallels_start plan point }
+    ensures { result ≡ parallels_start plan.now point }
 {
-    let at = Bresenham { point, error: 0 };
-    let fresh = Flank { at, error: 0 };
-    let offset = plan.offset;
-    let first = first_side(offset);
+    let fresh = Flank {
+        at: Bresenham { point, error: 0 },
+        error: 0,
+    };
+    let first = first_side(plan.offset);
     let skipped = next_parallel(plan, swap(first), fresh);
-    let parallel = plan.parallel;
-    let accumulator = (parallel.loss + parallel.gain) / 2;
+    let accumulator = (plan.parallel.loss + plan.parallel.gain) / 2;
     sides(first, fresh, skipped.flank, accumulator, first)
 }
 
 /// Whether no parallel follows.
-pub fn is_done(plan: Plan, state: Parallels) -> bool
-    requires sound { Sound thick_limit plan }
-    requires begun { Begun thick_limit plan state }
-    ensures { result ≡ is_done plan state }
+pub fn is_done(plan: &Plan, state: &Parallels) -> bool
+    requires sound { Sound thick_limit plan.now }
+    requires begun { Begun thick_limit plan.now state.now }
+    ensures { result ≡ is_done plan.now state.now }
 {
-    let accumulator = state.accumulator;
-    plan.threshold < accumulator * accumulator
+    plan.threshold < state.accumulator * state.accumulator
 }
 
 /// The accumulator after a parallel.
-pub fn grow(plan: Plan, accumulator: i64, extra: bool) -> i64
-    requires sound { Sound thick_limit plan }
+pub fn grow(plan: &Plan, accumulator: i64, extra: bool) -> i64
+    requires sound { Sound thick_limit plan.now }
     requires within { Within accumulator (2 ^ 28) }
-    ensures { result ≡ grown plan accumulator extra }
+    ensures { result ≡ grown plan.now accumulator extra }
 {
-    let across = plan.perpendicular;
     if extra {
-        return accumulator + across.gain;
+        return accumulator + plan.perpendicular.gain;
     }
-    accumulator + across.loss
+    accumulator + plan.perpendicular.loss
 }
 
-/// A parallel that is handed out, and the state after it.
-pub fn hand_out(side: Side, taken: Taken, other: Flank, accumulator: i64, next: Side) -> Yielded
-    ensures { result ≡ handed side taken other accumulator next }
+/// The next parallel, of a state that is not done; the state moves on to the one after it.
+pub fn next(plan: &Plan, state: &mut Parallels) -> Parallel
+    requires sound { Sound thick_limit plan.now }
+    requires begun { Begun thick_limit plan.now state.old }
+    ensures parallel { result ≡ (yield_of plan.now state.old).parallel }
+    ensures after { state.new ≡ (yield_of plan.now state.old).state }
 {
-    let start = taken.start;
-    let parallel = Parallel {
-        side,
-        start,
-        extra: taken.extra,
-    };
-    let state = sides(side, taken.flank, other, accumulator, next);
-    Yielded { parallel, state }
-}
-
-/// The next parallel, of a state that is not done.
-pub fn next(plan: Plan, state: Parallels) -> Yielded
-    requires sound { Sound thick_limit plan }
-    requires begun { Begun thick_limit plan state }
-    ensures { result ≡ yield_of plan state }
-{
-    let offset = plan.offset;
     let side = state.side;
     let taken = next_parallel(plan, side, flank_at(state, side));
     let other = flank_at(state, swap(side));
     let accumulator = grow(plan, state.accumulator, taken.extra);
-    hand_out(side, taken, other, accumulator, follow(offset, side))
+    *state = sides(
+        side,
+        taken.flank,
+        other,
+        accumulator,
+        follow(plan.offset, side),
+    );
+    Parallel {
+        side,
+        start: taken.start,
+        extra: taken.extra,
+    }
 }

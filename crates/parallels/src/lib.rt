@@ -8,7 +8,7 @@ use bresenham::{Bresenham, Parameters};
 use shapes::{Offset, Side};
 
 /// What stays the same over all parallels of a line.
-#[derive(Clone, Copy)]
+#[derive(Clone, Copy, Debug, PartialEq, Eq)]
 pub struct Plan {
     /// Moves along the parallels.
     pub parallel: Parameters,
@@ -22,14 +22,14 @@ pub struct Plan {
 }
 
 /// One side of the line: where its next parallel is looked for, and the error of that parallel's first point.
-#[derive(Clone, Copy)]
+#[derive(Clone, Copy, Debug, PartialEq, Eq)]
 pub struct Flank {
     pub at: Bresenham,
     pub error: i64,
 }
 
 /// How far the parallels are: both sides, the accumulated thickness, and the side that is next.
-#[derive(Clone, Copy)]
+#[derive(Clone, Copy, Debug, PartialEq, Eq)]
 pub struct Parallels {
     pub left: Flank,
     pub right: Flank,
@@ -38,7 +38,7 @@ pub struct Parallels {
 }
 
 /// A parallel: its side, the place its walk starts from, and whether it is an Extra one, which is a pixel shorter.
-#[derive(Clone, Copy)]
+#[derive(Clone, Copy, Debug, PartialEq, Eq)]
 pub struct Parallel {
     pub side: Side,
     pub start: Bresenham,
@@ -46,7 +46,7 @@ pub struct Parallel {
 }
 
 /// An error after an extra step: the one its parallel starts with, the one that is kept, and whether it carried.
-#[derive(Clone, Copy)]
+#[derive(Clone, Copy, Debug, PartialEq, Eq)]
 pub struct Bent {
     pub first: i64,
     pub error: i64,
@@ -54,7 +54,7 @@ pub struct Bent {
 }
 
 /// The next parallel of a side, and the side after it.
-#[derive(Clone, Copy)]
+#[derive(Clone, Copy, Debug, PartialEq, Eq)]
 pub struct Taken {
     pub start: Bresenham,
     pub extra: bool,
@@ -62,15 +62,8 @@ pub struct Taken {
 }
 
 /// One step across a side: the parallel that starts there, and whether it is met; else its point is to be passed over.
-#[derive(Clone, Copy)]
+#[derive(Clone, Copy, Debug, PartialEq, Eq)]
 pub struct Turn {
     pub taken: Taken,
     pub met: bool,
-}
-
-/// A parallel, and how far the parallels are after it.
-#[derive(Clone, Copy)]
-pub struct Yielded {
-    pub parallel: Parallel,
-    pub state: Parallels,
 }

@@ -21,7 +21,7 @@ use Rattle.coordinates.specs.Neighbours.{Doubled}
 use Rattle.coordinates.specs.Refusal.{route_refusal}
 use Rattle.route_joins.specs.Joins.{segment_at, segment_count, join_count, route_bend}
 use Rattle.route.specs.declared.Joins.{Joins}
-use Rattle.route.specs.declared.RowRange.{RowRange}
+use Rattle.route.specs.Rows.{RowRange}
 use Rattle.route.specs.Joined.{joins_of, segments_in}
 use Rattle.route.specs.Rows.{range_of, with_rows, with_all, drawn_in, no_rows, rows_in, RowsNear, row_count, row_at, first_of, room_at, rows_refusal}
 use Rattle.route.specs.Words.{SomeFull}

@@ -15,9 +15,9 @@ use Rattle.coordinates.specs.Refusal.{route_refusal}
 use Rattle.route_joins.specs.Joins.{join_at, join_count, route_bend}
 use Rattle.whole.specs.Places.{list_from}
 use Rattle.whole.proofs.Tests.{either}
-use Rattle.route.specs.declared.RowRange.{RowRange}
+use Rattle.route.specs.Rows.{RowRange}
 use Rattle.route.specs.declared.Joins.{Joins}
-use Rattle.route.specs.declared.Listing.{Listing}
+use Rattle.route.specs.Answers.{ListingValues}
 use Rattle.route.specs.Joined.{joins_of, segments_in}
 use Rattle.route.specs.Rows.{no_rows, drawn_in, rows_in}
 use Rattle.route.specs.Answers.{draw_refusal, rows_answer, whole_answer, refusal_on, answer_on, row_answer}
@@ -60,7 +60,7 @@ module _ (limits : Limits) (closed : Bool) (cs : List ℤ) (w : ℤ) where
     row_is : (row_answer limits closed cs w row len).bend ≡ b
     unfolding row_answer answer_on
     row_is =
-        chosen-bend {A = Listing} (λ l. l.bend) d (either {A = Listing} (λ l. l.bend ≡ 0) (eqb (refusal_on limits.corner joins row) 0) (λ e. refl) (λ e. refl)) refl none
+        chosen-bend {A = ListingValues} (λ l. l.bend) d (either {A = ListingValues} (λ l. l.bend ≡ 0) (eqb (refusal_on limits.corner joins row) 0) (λ e. refl) (λ e. refl)) refl none
 
     pub row-bend : RouteTold (row_answer limits closed cs w row len).refusal (row_answer limits closed cs w row len).bend
     row-bend =

@@ -13,7 +13,7 @@ use Rattle.thick_segment.specs.declared.Rows.{Rows}
 use Rattle.thick_segment.specs.Rows.{around}
 use Rattle.thick_segment.specs.Words.{Holds}
 use Rattle.thick_segment.proofs.Lit.{around-first, around-second, holds_on}
-use Rattle.route.specs.declared.RowRange.{RowRange}
+use Rattle.route.specs.Rows.{RowRange}
 use Rattle.route.specs.Rows.{no_rows, range_of, ends, with_rows, with_all}
 
 -- ---- those of one segment more, of rows that there are

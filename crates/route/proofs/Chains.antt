@@ -6,32 +6,43 @@ use mathlib.Core.List.{List}
 use Prim.Native.Nat.{ℕ}
 use native.Mathlib.Omega.{arith}
 use borrow.Author.Tests.{eq-eqb, ne_eqb}
+use lib.Dec.{lit≤}
 use lib.IntN.{ℤ}
 use lib.ListN.{length}
 use Rattle.shapes.specs.declared.limits.Limits.{Limits}
-use Rattle.shapes.specs.Limits.{line_limit, Roomy}
+use Rattle.shapes.specs.Limits.{line_limit, panel, Roomy}
+use Rattle.shapes.specs.declared.refusals.Refusal.{Refusal}
+use Rattle.shapes.specs.declared.refusals.Refusal.TheVariants.{Form, Odd, Points, Width, Coordinate, Doubled, Corner, Row, Column, Room}
+use Rattle.shapes.specs.Refusals.{number_of, bend_of}
 use Rattle.coordinates.specs.Refusal.{route_refusal}
 use Rattle.coordinates.proofs.Laws.{accepted-exactly}
 use Rattle.whole.proofs.Tests.{else-false}
+use Rattle.shapes.proofs.Numbers.{number-some}
 use Rattle.route_joins.specs.Joins.{are_joins_near, near_joins, route_bend}
 use Rattle.route_joins.proofs.Near.{joins-exactly}
 use Rattle.route_joins.proofs.Bends.{near-all}
 use Rattle.route.specs.declared.Joins.{Joins}
-use Rattle.route.specs.declared.Prepared.{Prepared}
 use Rattle.route.specs.Joined.{Kept, joins_of}
-use Rattle.route.specs.declared.Verdict.{Verdict}
-use Rattle.route.specs.declared.Listing.{Listing}
 use Rattle.route.specs.Rows.{no_rows, rows_in, rows_refusal}
-use Rattle.route.specs.Answers.{draw_refusal, prepared_of, rows_answer, whole_refusal, whole_answer, no_listing, answer_on, list_on, row_answer, row_to}
+use Rattle.route.specs.Answers.{Prepared, Verdict, ListingValues, draw_refusal, prepared_of, rows_answer, whole_refusal, whole_answer, no_listing, answer_on, list_on, row_answer, row_to}
 use Rattle.route.proofs.Kept.{kept-joins, kept_more}
 use Rattle.route.proofs.Refused.{draw-none, draw-bend}
+
+pub panel-roomy : Roomy panel
+panel-roomy = record { point_room = lit≤ tt; corner_room = lit≤ tt }
 
 module _ (limits : Limits) (closed : Bool) (cs : List ℤ) (w : ℤ) where
   -- the joins of a route that nothing refuses may be drawn
   pub kept-route : draw_refusal limits closed cs w ≡ 0 → Kept limits.corner (joins_of limits.corner closed cs w)
   kept-route e = let a = (draw-none limits closed cs w).0 e in kept-joins limits.corner closed cs w a.0.few ((joins-exactly limits.corner closed cs w).1 a.1)
 
-  -- what `prepare` answers, once its list and its width are not refused
+  -- what `prepare` answers where its list or its width is refused
+  pub prepared-stopped : (r : Refusal) → number_of r ≡ route_refusal limits.point closed cs w → bend_of r ≡ 0
+      → ◌≡◌ {A = Prepared} (record { refusal = number_of r; bend = bend_of r; joins = (prepared_of limits closed cs w).joins }) (prepared_of limits closed cs w)
+  unfolding prepared_of draw_refusal route_bend
+  prepared-stopped r e none = rw (← e, none, ne_eqb (number_of r) 0 (number-some r))
+
+  -- and once its list and its width are not refused
   module _ (zero : route_refusal limits.point closed cs w ≡ 0) {js : Joins} (made : js ≡ joins_of limits.corner closed cs w) where
     abbrev all : Bool
     all = are_joins_near limits.corner closed cs w
@@ -48,7 +59,7 @@ module _ (limits : Limits) (closed : Bool) (cs : List ℤ) (w : ℤ) where
     pub prepared-near : js.near ≡ js.count → ◌≡◌ {A = Prepared} (record { refusal = 0; bend = 0; joins = js }) (prepared_of limits closed cs w)
     prepared-near e = rw (prepared, all_near.0 e, made)
 
-    pub prepared-far : js.near ≢ js.count → ◌≡◌ {A = Prepared} (record { refusal = 5; bend = js.near; joins = js }) (prepared_of limits closed cs w)
+    pub prepared-far : js.near ≢ js.count → ◌≡◌ {A = Prepared} (record { refusal = 5; bend = js.near; joins = (prepared_of limits closed cs w).joins }) (prepared_of limits closed cs w)
     unfolding joins_of
     prepared-far other = rw (prepared, else-false all (λ e. other (all_near.1 e)), made)
 
@@ -93,7 +104,7 @@ module _ (limits : Limits) (closed : Bool) (cs : List ℤ) (w : ℤ) where
       unfolding whole_answer
       verdict-stopped = rw (← whole-stopped, at)
 
-      pub row-stopped : (row : ℤ) (out : List ℤ) {l : Listing} → l ≡ no_listing m b → (l ≡ row_answer limits closed cs w row (length out)) × (out ≡ row_to limits closed cs w row out)
+      pub row-stopped : (row : ℤ) (out : List ℤ) {l : ListingValues} → l ≡ no_listing m b → (l ≡ row_answer limits closed cs w row (length out)) × (out ≡ row_to limits closed cs w row out)
       unfolding row_answer row_to
       row-stopped row out is = (rw (e, at, ne_eqb m 0 some) is, rw (e, ne_eqb m 0 some))
 

@@ -11,8 +11,7 @@ use Rattle.whole.specs.Places.{list_from}
 use Rattle.thick_segment.specs.declared.Segment.{Segment}
 use Rattle.thick_segment.specs.Segments.{SegmentNear, span_on}
 use Rattle.thick_segment.proofs.Laws.{span-least, span-sound}
-use Rattle.board.specs.declared.Answer.{Answer}
-use Rattle.board.specs.Boards.{Sound, board_of}
+use Rattle.board.specs.Boards.{Answer, Sound, board_of}
 use Rattle.board_laws.specs.Histories.{covered, board_after, spans_after}
 use Rattle.board_laws.specs.Offers.{Proper}
 use Rattle.coordinates.specs.Points.{segments_of}

@@ -33,7 +33,7 @@ use Rattle.board_laws.specs.Histories.{covered, runs_in}
 use Rattle.board_laws.proofs.Offers.{live_of}
 use Rattle.route_joins.specs.Joins.{segment_at, segment_count}
 use Rattle.route_joins.proofs.Near.{joins-exactly}
-use Rattle.route.specs.declared.RowRange.{RowRange}
+use Rattle.route.specs.Rows.{RowRange}
 use Rattle.route.specs.Joined.{joins_of}
 use Rattle.route.specs.Rows.{ends, offer_all, board_on}
 use Rattle.route.specs.Words.{spans_on, Inside, Drawn}

@@ -17,11 +17,10 @@ use Rattle.whole.specs.Places.{list_from}
 use Rattle.shapes.specs.declared.Span.{Span}
 use Rattle.shapes.specs.Limits.{board_runs}
 use Rattle.shapes.specs.Spans.{is_empty}
-use Rattle.board.specs.declared.Answer.{Answer}
 use Rattle.board.specs.declared.Board.{Board}
 use Rattle.board.specs.declared.Run.{Run}
 use Rattle.board.specs.Runs.{none}
-use Rattle.board.specs.Boards.{Sound, answer_of, added, offer_refusal, begun, board_of}
+use Rattle.board.specs.Boards.{Answer, Sound, answer_of, added, offer_refusal, begun, board_of}
 use Rattle.board_laws.specs.Histories.{after, reached, accepted, covered, board_after, spans_after, Lights}
 use Rattle.board_laws.specs.Offers.{Proper, Offerable}
 use Rattle.board_laws.proofs.Offers.{added-cases, added-row, added-either, added-sound, offered-added, sound-of}

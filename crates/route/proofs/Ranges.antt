@@ -1,6 +1,7 @@
 -- The rows of a route: they are in order and within the limit of its corners, and so is every row between them. Assumes nothing.
-use mathlib.Core.Path.{◌≡◌}
+use mathlib.Core.Path.{◌≡◌, refl}
 use mathlib.Core.Bool.{Bool, true, false, cond}
+use mathlib.Core.List.{[]}
 use Prim.Native.Nat.{ℕ, zero, suc, ◌+◌, ◌*◌, ◌≤◌, ◌<◌}
 use native.Mathlib.Nat.{zero-add}
 use native.Mathlib.Omega.{arith}
@@ -15,9 +16,11 @@ use Rattle.whole.proofs.Laws.{lesser-le, le-greater}
 use Rattle.thick_segment.specs.declared.Rows.{Rows}
 use Rattle.thick_segment.specs.Rows.{around}
 use Rattle.thick_segment.proofs.Lit.{drawn-rows-near, rows-ordered}
+use Rattle.coordinates.specs.Points.{point_count, segments_of}
+use Rattle.route_joins.specs.Joins.{join_count}
 use Rattle.route.specs.declared.Joins.{Joins}
-use Rattle.route.specs.declared.RowRange.{RowRange}
-use Rattle.route.specs.Joined.{Kept, segments_in, segment_in}
+use Rattle.route.specs.Rows.{RowRange}
+use Rattle.route.specs.Joined.{joins_of, Kept, segments_in, segment_in}
 use Rattle.route.specs.Rows.{range_of, ends, with_rows, with_all, drawn_in, rows_in, RowsNear, row_count, row_at}
 use Rattle.route.proofs.Kept.{segment-near}
 
@@ -142,3 +145,8 @@ count-some rows e = rw e
 pub count_none : (rows : RowRange) → rows.some ≡ false → row_count rows ≡ 0
 unfolding row_count
 count_none rows e = rw e
+
+-- the route of no points has none
+pub none-of-none : (k : ℕ) → row_count (rows_in (joins_of k false [] (pos 0))) ≡ 0
+unfolding row_count rows_in with_all list_from segments_of joins_of join_count point_count
+none-of-none k = refl

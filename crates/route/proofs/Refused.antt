@@ -16,10 +16,9 @@ use Rattle.shapes.specs.declared.limits.Limits.{Limits}
 use Rattle.shapes.specs.Refusals.{or_else}
 use Rattle.line_join.specs.Caps.{JoinNear}
 use Rattle.line_join.specs.Words.{BendTold}
-use Rattle.board.specs.declared.Answer.{Answer}
 use Rattle.board.specs.declared.Board.{Board}
 use Rattle.board.specs.declared.Run.{Run}
-use Rattle.board.specs.Boards.{live, told, listing, not_listed}
+use Rattle.board.specs.Boards.{Answer, live, told, listing, not_listed}
 use Rattle.board_laws.specs.Histories.{board_after}
 use Rattle.coordinates.specs.Refusal.{route_refusal, Accepted}
 use Rattle.coordinates.specs.Neighbours.{Doubled}
@@ -28,7 +27,7 @@ use Rattle.route_joins.specs.Joins.{join_at, join_count, are_joins_near, route_b
 use Rattle.route_joins.proofs.Near.{joins-exactly}
 use Rattle.route_joins.proofs.Bends.{route-bend}
 use Rattle.route.specs.declared.Joins.{Joins}
-use Rattle.route.specs.declared.Listing.{Listing}
+use Rattle.route.specs.Answers.{ListingValues}
 use Rattle.route.specs.Joined.{joins_of}
 use Rattle.route.specs.Rows.{board_on}
 use Rattle.route.specs.Words.{spans_on, offering, Crowded}
@@ -186,8 +185,12 @@ told_none b len = rw (told-number b len) (bad-first (leb (2 * length (live b)) l
 told-eight : (b : Board) (len : ℕ) → ((told b len).refusal ≡ 8) ↔ (2 * length (live b) ≤ len → ⊥)
 told-eight b len = rw (told-number b len) (good-first (leb (2 * length (live b)) len) (leb-iff (2 * length (live b)) len) (λ e. omega arith))
 
+-- 0 and 8 are all
+pub told-most : (b : Board) (len : ℕ) {m : ℕ} → 0 < m → m ≢ 8 → (told b len).refusal ≡ m → ⊥
+told-most b len some eight = rw (told-number b len) (never (leb (2 * length (live b)) len) (λ z. omega (arith, some, z)) (λ z. eight (sym z)))
+
 -- the number of a choice between three answers
-chosen-number : (d b m : ℕ) (l : Listing) → (cond (eqb d 0) (cond (eqb m 0) l (no_listing m 0)) (no_listing d b)).refusal ≡ or_else (or_else d m) l.refusal
+chosen-number : (d b m : ℕ) (l : ListingValues) → (cond (eqb d 0) (cond (eqb m 0) l (no_listing m 0)) (no_listing d b)).refusal ≡ or_else (or_else d m) l.refusal
 chosen-number d b m l = by (eqb d 0) refl
   where
     second : (u : Bool) → (cond u l (no_listing m 0)).refusal ≡ cond u l.refusal m
@@ -226,4 +229,4 @@ module _ (limits : Limits) (closed : Bool) (cs : List ℤ) (w row : ℤ) (len : 
       either-by f g = (λ x. ⊎_elim (λ p. inl p) (λ q. inr (q.0, g.0 q.1)) (f.0 x), λ y. f.1 (⊎_elim (λ p. inl p) (λ q. inr (q.0, g.1 q.1)) y))
 
   pub answer-before : {m : ℕ} → 0 < m → m ≢ 8 → (a ≡ m) ↔ (r ≡ m)
-  answer-before {m} some eight = rw answer-number (or-before r (told b len).refusal some (rw (told-number b len) (never (leb (2 * length runs) len) (λ z. omega (arith, some, z)) (λ z. eight (sym z)))))
+  answer-before {m} some eight = rw answer-number (or-before r (told b len).refusal some (told-most b len some eight))

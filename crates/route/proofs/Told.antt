@@ -21,7 +21,7 @@ use Rattle.board_laws.proofs.Demand.{demand-3}
 use Rattle.board_laws.proofs.Refused.{list-zero}
 use Rattle.route_joins.specs.Joins.{route_bend}
 use Rattle.route_joins.proofs.Near.{joins-exactly}
-use Rattle.route.specs.declared.Listing.{Listing}
+use Rattle.route.specs.Answers.{ListingValues}
 use Rattle.route.specs.Joined.{joins_of}
 use Rattle.route.specs.Rows.{board_on}
 use Rattle.route.specs.Words.{spans_on, offering, RowTold}
@@ -124,7 +124,7 @@ module _ (limits : Limits) (closed : Bool) (cs : List ℤ) (w row : ℤ) (out : 
 
   -- ---- refused
 
-  abbrev answer : Listing
+  abbrev answer : ListingValues
   answer = row_answer limits closed cs w row (length out)
 
   told-refused : (t : Bool) → let a = listing_of (cond t (listing drawn) (not_listed 8)) in a.refusal ≢ 0 → (a ≡ no_listing a.refusal a.bend) × (cond t (over out (live drawn)) out ≡ out)

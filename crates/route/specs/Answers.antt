@@ -1,21 +1,18 @@
 -- The entries' answers, for any limits: 1 to 4, 12 and 5 for the route, then 6 for a row outside, then 8 for a row that has no room. With 5 comes
 -- the position of a join.
-use Rattle.std.specs.Prelude.{Bool, false, cond, List, ℕ, eqb, ℤ, pos, replicate}
+use Rattle.std.specs.Prelude.{Bool, false, cond, List, ℕ, eqb, ℤ, pos, replicate, Result, Ok, Err}
 use Rattle.whole.specs.Number.{is_within}
 use Rattle.shapes.specs.declared.limits.Limits.{Limits}
 use Rattle.shapes.specs.Limits.{route_points}
-use Rattle.shapes.specs.Refusals.{corner_refused, row_refused, or_else}
+use Rattle.shapes.specs.declared.refusals.Refusal.{Refusal}
+use Rattle.shapes.specs.Refusals.{corner_refused, row_refused, or_else, number_of, bend_of, refusal_in, bend_in}
 use Rattle.board.specs.declared.Listed.{Listed}
-use Rattle.board.specs.Boards.{told, told_to}
+use Rattle.board.specs.Boards.{ListedValues, told, told_to}
 use Rattle.coordinates.specs.Refusal.{route_refusal}
 use Rattle.route_joins.specs.Joins.{are_joins_near, route_bend}
 use Rattle.route.specs.declared.Joins.{Joins}
-use Rattle.route.specs.declared.Prepared.{Prepared}
-use Rattle.route.specs.declared.RowRange.{RowRange}
-use Rattle.route.specs.declared.Verdict.{Verdict}
-use Rattle.route.specs.declared.Listing.{Listing}
 use Rattle.route.specs.Joined.{no_join, joins_of}
-use Rattle.route.specs.Rows.{board_on, no_rows, rows_in, rows_refusal}
+use Rattle.route.specs.Rows.{RowRange, board_on, no_rows, rows_in, rows_refusal}
 
 -- ---- 1 to 4, 12, 5, or 0
 
@@ -25,6 +22,12 @@ draw_refusal limits closed cs w = or_else (route_refusal limits.point closed cs 
 unfoldable pub no_joins : Joins
 no_joins = record { closed = false; count = 0; near = 0; joins = replicate route_points no_join }
 
+-- a route's joins, or its refusal, with the position that comes with 5
+pub record Prepared : Type 0 where
+  pub refusal : ℕ
+  pub bend : ℕ
+  pub joins : Joins
+
 unfoldable pub prepared_of : Limits → Bool → List ℤ → ℤ → Prepared
 prepared_of limits closed cs w =
     record {
@@ -32,6 +35,11 @@ prepared_of limits closed cs w =
       bend = route_bend limits closed cs w;
       joins = cond (eqb (route_refusal limits.point closed cs w) 0) (joins_of limits.corner closed cs w) no_joins;
     }
+
+-- what `prepare` answers; `joins` are the paper's where it refuses
+abbrev pub prepared_values : Result Joins Refusal → Joins → Prepared
+prepared_values (Ok route) joins = record { refusal = 0; bend = 0; joins = route }
+prepared_values (Err r) joins = record { refusal = number_of r; bend = bend_of r; joins = joins }
 
 -- ---- the rows of a route
 
@@ -42,16 +50,38 @@ rows_answer limits closed cs w = let n = draw_refusal limits closed cs w in cond
 unfoldable pub whole_refusal : Limits → Bool → List ℤ → ℤ → ℕ
 whole_refusal limits closed cs w = let route = joins_of limits.corner closed cs w in or_else (draw_refusal limits closed cs w) (rows_refusal route (rows_in route))
 
+-- what a route is refused with as a whole, with the position that comes with 5
+pub record Verdict : Type 0 where
+  pub refusal : ℕ
+  pub bend : ℕ
+
+abbrev pub verdict_of : Refusal → Verdict
+verdict_of r = record { refusal = number_of r; bend = bend_of r }
+
+abbrev pub verdict_values : {A : Type 0} → Result A Refusal → Verdict
+verdict_values r = record { refusal = refusal_in r; bend = bend_in r }
+
 unfoldable pub whole_answer : Limits → Bool → List ℤ → ℤ → Verdict
 whole_answer limits closed cs w = record { refusal = whole_refusal limits closed cs w; bend = route_bend limits closed cs w }
 
 -- ---- a row of joins that are kept, k being the rows' limit
 
+-- a row's listing as numbers: in a refusal zeros but for the number, and the position that comes with 5
+pub record ListingValues : Type 0 where
+  pub refusal : ℕ
+  pub bend : ℕ
+  pub count : ℕ
+  pub total : ℤ
+
 -- b is the position that comes with 5
-abbrev pub no_listing : ℕ → ℕ → Listing
+abbrev pub no_listing : ℕ → ℕ → ListingValues
 no_listing n b = record { refusal = n; bend = b; count = 0; total = pos 0 }
 
-abbrev pub listing_of : Listed → Listing
+abbrev pub listing_values : Result Listed Refusal → ListingValues
+listing_values (Ok l) = record { refusal = 0; bend = 0; count = l.count; total = l.total }
+listing_values (Err r) = no_listing (number_of r) (bend_of r)
+
+abbrev pub listing_of : ListedValues → ListingValues
 listing_of l = record { refusal = l.refusal; bend = 0; count = l.count; total = l.total }
 
 -- 6, then 8 where the row needs too many runs after some segment
@@ -59,7 +89,7 @@ unfoldable pub refusal_on : ℕ → Joins → ℤ → ℕ
 refusal_on k route row = cond (is_within k row) (board_on route row).refusal row_refused
 
 -- the listing of its board; `n` is the length of the list lent for it
-unfoldable pub answer_on : ℕ → Joins → ℤ → ℕ → Listing
+unfoldable pub answer_on : ℕ → Joins → ℤ → ℕ → ListingValues
 answer_on k route row n = let m = refusal_on k route row in cond (eqb m 0) (listing_of (told (board_on route row).board n)) (no_listing m 0)
 
 -- what the lent list holds afterwards
@@ -72,7 +102,7 @@ list_on k route row out = cond (eqb (refusal_on k route row) 0) (told_to (board_
 unfoldable pub row_refusal : Limits → Bool → List ℤ → ℤ → ℤ → ℕ
 row_refusal limits closed cs w row = or_else (draw_refusal limits closed cs w) (refusal_on limits.corner (joins_of limits.corner closed cs w) row)
 
-unfoldable pub row_answer : Limits → Bool → List ℤ → ℤ → ℤ → ℕ → Listing
+unfoldable pub row_answer : Limits → Bool → List ℤ → ℤ → ℤ → ℕ → ListingValues
 row_answer limits closed cs w row n =
     let d = draw_refusal limits closed cs w in
     cond (eqb d 0) (answer_on limits.corner (joins_of limits.corner closed cs w) row n) (no_listing d (route_bend limits closed cs w))

@@ -1,18 +1,17 @@
 -- 01, "The board": "a route's row offers the span of each segment in walk order to a fresh board". 02, K8: the rows of a route are taken
 -- "from the lines that are drawn".
-use Rattle.std.specs.Prelude.{true, false, cond, List, [], ◌∷◌, ℕ, eqb, ℤ, pos, nat_abs, ◌+ℤ◌, ◌-ℤ◌, ◌≤ℤ◌}
+use Rattle.std.specs.Prelude.{Bool, true, false, cond, List, [], ◌∷◌, ℕ, eqb, ℤ, pos, nat_abs, ◌+ℤ◌, ◌-ℤ◌, ◌≤ℤ◌, Option, Some, None, Result, Ok, Err}
 use Rattle.whole.specs.Number.{Within}
 use Rattle.whole.specs.Places.{list_from}
 use Rattle.shapes.specs.declared.Span.{Span}
-use Rattle.shapes.specs.Refusals.{or_else}
+use Rattle.shapes.specs.declared.refusals.Refusal.{Refusal}
+use Rattle.shapes.specs.Refusals.{or_else, number_of, bend_of}
 use Rattle.thick_segment.specs.declared.Rows.{Rows}
 use Rattle.thick_segment.specs.Segments.{span_on}
 use Rattle.thick_segment.specs.Rows.{rows_from, around, drawn_rows}
 use Rattle.board.specs.declared.Board.{Board}
-use Rattle.board.specs.declared.Answer.{Answer}
-use Rattle.board.specs.Boards.{board_of, answer_of, added}
+use Rattle.board.specs.Boards.{Answer, board_of, answer_of, added}
 use Rattle.route.specs.declared.Joins.{Joins}
-use Rattle.route.specs.declared.RowRange.{RowRange}
 use Rattle.route.specs.Joined.{segments_in, segment_in}
 
 -- ---- the board of a row
@@ -28,7 +27,20 @@ span_in route row k = span_on (segment_in route k) row
 unfoldable pub board_on : Joins → ℤ → Answer
 board_on route row = offer_all (board_of row []) (list_from (span_in route row) 0 (segments_in route))
 
+-- what drawing it answers; `board` is the paper's where there is no room
+abbrev pub board_values : Result Board Refusal → Board → Answer
+board_values (Ok b) board = answer_of 0 b
+board_values (Err r) board = answer_of (number_of r) board
+
 -- ---- the rows
+
+-- the rows of a route, `first` to `last`; `some` is false, and both are 0, where it has none, and in a refusal
+pub record RowRange : Type 0 where
+  pub refusal : ℕ
+  pub bend : ℕ
+  pub some : Bool
+  pub first : ℤ
+  pub last : ℤ
 
 -- b is the position that comes with 5
 abbrev pub no_rows : ℕ → ℕ → RowRange
@@ -36,6 +48,15 @@ no_rows n b = record { refusal = n; bend = b; some = false; first = pos 0; last 
 
 abbrev pub range_of : Rows → RowRange
 range_of r = record { refusal = 0; bend = 0; some = true; first = r.first; last = r.last }
+
+-- rows as they are answered, and the entry's answer
+abbrev pub range_values : Option Rows → RowRange
+range_values (Some r) = range_of r
+range_values None = no_rows 0 0
+
+abbrev pub rows_values : Result (Option Rows) Refusal → RowRange
+rows_values (Ok rows) = range_values rows
+rows_values (Err r) = no_rows (number_of r) (bend_of r)
 
 abbrev pub ends : RowRange → Rows
 ends range = rows_from range.first range.last

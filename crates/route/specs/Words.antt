@@ -11,8 +11,7 @@ use Rattle.board.specs.declared.Run.{Run}
 use Rattle.board.specs.Runs.{edge, Ascending}
 use Rattle.board_laws.specs.Histories.{Event, offers, covered, Lights, runs_in, columns}
 use Rattle.route_joins.specs.Joins.{segment_at, segment_count}
-use Rattle.route.specs.declared.RowRange.{RowRange}
-use Rattle.route.specs.Rows.{ends}
+use Rattle.route.specs.Rows.{RowRange, ends}
 use Rattle.route.specs.Answers.{rows_answer, row_refusal, row_answer, row_to}
 
 -- the span of each segment on a row, in walk order

@@ -5,17 +5,17 @@ use mathlib.Core.List.{List, ◌++◌}
 use Prim.Native.Nat.{ℕ, ◌*◌, ◌≤◌, ◌<◌}
 use native.Mathlib.Nat.{zero-add}
 use native.Mathlib.Omega.{arith}
-use borrow.Author.Tests.{le-leb, lt-leb, lt-ltb, le-ltb}
+use borrow.Author.Tests.{le-leb, lt-ltb, le-ltb}
 use lib.IntN.{ℤ}
 use lib.ListN.{length, drop}
 use lib.Seq.{sets, sets-eq}
-use Rattle.shapes.specs.Refusals.{form_refused, room_refused}
-use Rattle.route_file.specs.declared.Pointed.{Pointed}
+use Rattle.shapes.specs.Refusals.{form_refused}
+use Rattle.route_file.specs.Answers.{Counted}
 use Rattle.route_file.specs.Numbers.{signed_from}
 use Rattle.route_file.specs.Form.{route_count, entry_at, is_formed}
 use Rattle.route_file.specs.Answers.{form_refusal, nothing, described_by, described, points_refusal, pointed, pointed_to}
 use Rattle.route_file.proofs.Reading.{from-length}
-use Rattle.route_file.proofs.Laws.{coordinates-known, coordinates-length, coordinates-none}
+use Rattle.route_file.proofs.Laws.{coordinates-known, coordinates-none}
 
 -- ---- an entry
 
@@ -34,26 +34,18 @@ module _ (f : List ℕ) (k : ℕ) where
 
 -- ---- points: r is the answer, and after what the lent list holds
 
-abbrev pub answer : ℕ → ℕ → Pointed
+abbrev pub answer : ℕ → ℕ → Counted
 answer n count = record { refusal = n; count = count }
 
-abbrev pub Answers : List ℕ → ℕ → List ℤ → Pointed → List ℤ → Type 0
+abbrev pub Answers : List ℕ → ℕ → List ℤ → Counted → List ℤ → Type 0
 Answers f k out r after = (r ≡ pointed f k (length out)) × (after ≡ pointed_to f k out)
 
 module _ (f : List ℕ) (k : ℕ) (out : List ℤ) where
-  pub points-nine : is_formed f ≡ false → Answers f k out (answer form_refused 0) out
-  unfolding pointed pointed_to points_refusal
-  points-nine h = rw h (refl, refl)
-
   pub points_none : is_formed f ≡ true → route_count f ≤ k → Answers f k out (answer 0 0) out
   unfolding pointed pointed_to points_refusal
   points_none h none = rw (h, coordinates-none f k none, le-leb 0 (length out) (omega arith)) (refl, refl)
 
   module _ (h : is_formed f ≡ true) (known : k < route_count f) where
-    pub points-short : length out < 2 * (entry_at f k).points → Answers f k out (answer room_refused 0) out
-    unfolding pointed pointed_to points_refusal
-    points-short short = rw (h, coordinates-length f k known, lt-leb (2 * (entry_at f k).points) (length out) short) (refl, refl)
-
     pub points-all : 2 * (entry_at f k).points ≤ length out
         → Answers f k out (answer 0 (2 * (entry_at f k).points)) (sets out 0 (signed_from f (entry_at f k).offset (2 * (entry_at f k).points)))
     unfolding pointed pointed_to points_refusal

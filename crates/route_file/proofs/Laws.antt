@@ -20,6 +20,11 @@ use Rattle.route_file.specs.Form.{most_routes, route_count, said_length, entries
 use Rattle.route_file.specs.Answers.{form_refusal, nothing, described_by, described, coordinates, points_refusal, pointed, pointed_to}
 use Rattle.route_file.proofs.Reading.{from-length, from_at}
 
+-- what has no refusal passes
+none-refused : (t : Bool) (n : ℕ) → 0 ≡ cond t 0 (suc n) → t ≡ true
+none-refused true n e = refl
+none-refused false n e = absurd (omega (arith, e))
+
 -- ---- the form: the test passes exactly where it is right
 
 true-entry : (end size : ℕ) (e : Entry) → is_entry_formed end size e ≡ true → EntryFormed end size e
@@ -87,6 +92,20 @@ formed-true {f} h =
       eq-eqb (said_length f) (length f) h.said,
       le-leb (entries_end f) (length f) h.entries,
     ) (each-true (entries_end f) f 0 (route_count f) (λ k lt. rw (zero-add k) (h.each k lt)))
+
+pub formed_of : (f : List ℕ) → 0 ≡ form_refusal f → Formed f
+unfolding form_refusal
+formed_of f e = true-formed f (none-refused (is_formed f) 8 e)
+
+-- what an entry knows of a file whose form is right
+pub header_inside : (f : List ℕ) → 0 ≡ form_refusal f → 4 ≤ length f
+header_inside f e = (formed_of f e).header
+
+pub entry_inside : (f : List ℕ) (k : ℕ) → 0 ≡ form_refusal f → k < route_count f → 12 + 8 * k ≤ length f
+entry_inside f k e known = omega (arith, (formed_of f e).entries)
+
+pub points_inside : (f : List ℕ) (k : ℕ) (e : Entry) → 0 ≡ form_refusal f → k < route_count f → e ≡ entry_at f k → e.offset + 2 * (2 * e.points) ≤ length f
+points_inside f k e g known is = rw is (omega (arith, (formed_of f g).each k known))
 
 pub formed-exactly : (f : List ℕ) → (is_formed f ≡ true) ↔ Formed f
 formed-exactly f = (true-formed f, formed-true)
@@ -201,3 +220,6 @@ enough-by f k false e h small = let none = coordinates-none f k (ltb-false k (ro
 
 pub enough : (f : List ℕ) (k : ℕ) → Formed f → ((i : ℕ) → get_or f i 0 < 256) → length (coordinates f k) ≤ 32768
 enough f k h small = enough-by f k (ltb k (route_count f)) refl h small
+
+-- what the entries' code needs
+pub ruleset inside = (header_inside, entry_inside, points_inside, coordinates-none, coordinates-length)

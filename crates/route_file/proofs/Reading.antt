@@ -1,18 +1,31 @@
--- Numbers read one after the other, and entries tested one after the other, in the form of the loops' tests. Assumes nothing.
+-- Numbers read one after the other, in the form of the loop's tests. Assumes nothing.
 use mathlib.Core.Path.{◌≡◌, refl, ap, ◌∙◌}
-use mathlib.Core.Bool.{true, false}
+use mathlib.Core.Bool.{Bool, true, false}
 use mathlib.Core.List.{List, [], ◌∷◌}
 use Prim.Native.Nat.{ℕ, zero, suc, ◌+◌, ◌-◌, ◌*◌, ◌≤◌, ◌<◌}
 use native.Mathlib.Nat.{add-zero}
 use native.Mathlib.Numerals.{sub-one}
 use native.Mathlib.Omega.{arith}
+use borrow.Author.Tests.{ltb-false}
+use lib.Dec.{ltb}
 use lib.IntN.{ℤ, pos}
 use lib.ListN.{length, set, get_or}
 use lib.Seq.{sets}
-use Rattle.route_file.specs.Numbers.{signed_at, signed_from}
-use Rattle.route_file.specs.Form.{entry_at, is_entry_formed, are_formed}
+use mir.Syntax.{w16}
+use mir.Val.{to_z}
+use Rattle.whole.proofs.Linear.{linear, diff}
+use Rattle.route_file.specs.Numbers.{signed, signed_at, signed_from}
 
 -- ---- numbers
+
+-- the signed number of two bytes
+bits_by : (n : ℕ) (t : Bool) → ltb n 32768 ≡ t → n < 65536 → to_z w16 n ≡ signed n
+unfolding signed
+bits_by n true e small = rw e
+bits_by n false e small = rw e (omega (linear, diff (pos n) (pos 65536), ltb-false n 32768 e))
+
+pub signed_bits : (n : ℕ) → n < 65536 → to_z w16 n ≡ signed n
+signed_bits n small = bits_by n (ltb n 32768) refl small
 
 pub from-length : (f : List ℕ) (at n : ℕ) → length (signed_from f at n) ≡ n
 unfolding signed_from
@@ -48,18 +61,3 @@ module _ (f : List ℕ) (at n i : ℕ) (out : List ℤ) where
 
   pub store-end : n ≤ i → sets out i (signed_from f (at + 2 * i) (n - i)) ≡ out
   store-end h = ap (sets out i) (from_end f (at + 2 * i) (n - i) (omega arith))
-
--- ---- entries
-
-module _ (end : ℕ) (f : List ℕ) (k n : ℕ) where
-  pub entry-on : k < n → is_entry_formed end (length f) (entry_at f k) ≡ true → are_formed end f k (n - k) ≡ are_formed end f (k + 1) (n - (k + 1))
-  unfolding are_formed
-  entry-on h e = let one : n - k ≡ suc (n - (k + 1)) = omega arith in rw (one, e)
-
-  pub entry-stop : k < n → is_entry_formed end (length f) (entry_at f k) ≡ false → are_formed end f k (n - k) ≡ false
-  unfolding are_formed
-  entry-stop h e = let one : n - k ≡ suc (n - (k + 1)) = omega arith in rw (one, e)
-
-  pub entry-end : n ≤ k → are_formed end f k (n - k) ≡ true
-  unfolding are_formed
-  entry-end h = let none : n - k ≡ 0 = omega arith in rw none

@@ -14,7 +14,8 @@ use Rattle.whole.proofs.Bounds.{within_more}
 use Rattle.whole.proofs.Places.{all-exactly}
 use Rattle.shapes.specs.declared.Offset.{Offset}
 use Rattle.shapes.specs.Limits.{panel, width_limit, line_limit, stroke_limit}
-use Rattle.shapes.specs.Shape.{line_of}
+use Rattle.shapes.specs.declared.Point.{Point}
+use Rattle.shapes.specs.Shape.{Near, line_of}
 use Rattle.shapes.proofs.Widths.{thin-back}
 use Rattle.line_join.specs.Caps.{JoinNear, is_join_near}
 use Rattle.extents.specs.Edges.{EdgesNear, extents_of}
@@ -22,7 +23,7 @@ use Rattle.line_join.proofs.Room.{join-near-iff, edges-within}
 use Rattle.coordinates.specs.Points.{point_at, point_count, segments_of}
 use Rattle.coordinates.specs.Refusal.{AllWithin, Accepted}
 use Rattle.coordinates.proofs.Lists.{point_near}
-use Rattle.coordinates.proofs.Places.{after-inside}
+use Rattle.coordinates.proofs.Places.{after-inside, before-inside}
 use Rattle.route_joins.specs.Joins.{join_at, join_count, are_joins_near, end_place, segment_count, Drawable}
 
 -- ---- what joins ask
@@ -32,6 +33,10 @@ drawable-back d = record { near = d.near; thin = thin-back d.thin; several = d.s
 
 pub all_more : {j k : ℕ} {cs : List ℤ} → AllWithin j cs → j ≤ k → AllWithin k cs
 all_more a le = record { within = λ i. within_more (a.within i) le }
+
+-- a point of such a list
+pub near_at : {k : ℕ} {cs : List ℤ} {p : Point} (i : ℕ) → p ≡ point_at cs i → AllWithin k cs → Near k p
+near_at i e a = rw e (point_near a i)
 
 counted-by : (n : ℕ) (t : Bool) {i : ℕ} → leb 2 n ≡ t → i < cond t n 0 → (2 ≤ n) × (i < n)
 counted-by n true e h = (leb-true 2 n e, h)
@@ -47,6 +52,9 @@ pub place_inside : {n k : ℕ} (closed : Bool) → k < segments_of closed n → 
 unfolding segments_of end_place
 place_inside true h = (h, after-inside h)
 place_inside false h = (omega arith, omega arith)
+
+-- what lets the functions call what asks for bounds
+pub ruleset asked = (place_inside, after-inside, before-inside)
 
 -- a route that nothing refuses, and that has a segment, has two points or more
 pub several-by : (n : ℕ) (closed : Bool) {k : ℕ} → (closed ≡ true → n ≢ 1) → k < segments_of closed n → 2 ≤ n

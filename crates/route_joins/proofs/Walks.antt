@@ -10,12 +10,14 @@ use native.Mathlib.Omega.{arith}
 use borrow.Author.Tests.{lt-ltb, le-ltb, eq-eqb, ne_eqb}
 use lib.Dec.{eqb, ltb}
 use lib.IntN.{ℤ, pos}
+use Rattle.std.specs.Prelude.{Some, None, Ok, Err}
 use Rattle.whole.proofs.Tests.{else-false, ltb_iff, eqb-iff, never, good-first, good-later}
 use Rattle.shapes.specs.declared.Point.{Point}
 use Rattle.shapes.specs.Refusals.{corner_refused}
 use Rattle.thick_segment.specs.declared.Segment.{Segment}
 use Rattle.coordinates.specs.Points.{point_count}
 use Rattle.coordinates.specs.Refusal.{route_refusal, Accepted}
+use Rattle.shapes.proofs.Numbers.{refusals-tell}
 use Rattle.coordinates.proofs.Laws.{accepted-exactly, refused-most}
 use Rattle.shapes.specs.declared.limits.Limits.{Limits}
 use Rattle.shapes.specs.declared.Offset.{Offset}
@@ -26,34 +28,31 @@ use Rattle.thick_segment.specs.Words.{joins_in}
 use Rattle.thick_segment.proofs.Refused.{segment-near-iff}
 use Rattle.thick_segment.proofs.Named.{segment-named, named-far}
 use Rattle.line_join.specs.declared.Join.{Join}
-use Rattle.line_join.specs.declared.Joined.TheVariants.{Made}
 use Rattle.line_join.specs.Origins.{no_crossings}
 use Rattle.line_join.specs.Answers.{JoinValues, join_values}
 use Rattle.line_join.specs.Words.{Named, BendTold}
 use Rattle.line_join.proofs.Answers.{join-values-tell}
 use Rattle.line_join.proofs.Named.{bend-told}
-use Rattle.route_joins.specs.declared.Step.{Step}
-use Rattle.route_joins.specs.declared.Step.TheVariants.{Drawn, End, Refused}
-use Rattle.route_joins.specs.Steps.{StepValues, step_values, checked, step_at, route_step, place_from, after_steps, StepTold, SegmentBySegment}
+use Rattle.route_joins.specs.Steps.{StepValues, refused_values, Step, step_values, checked, step_at, route_step, place_from, after_steps, StepTold, SegmentBySegment}
 
 -- ---- one step: `refusal` is that of the list and the width
 
 module _ (k refusal count : ℕ) (segment : ℕ → Segment) (place : ℕ) where
-  pub step-refused : 0 < refusal → step_at k refusal count segment place ≡ step_values (Refused refusal 0)
+  pub step-refused : 0 < refusal → step_at k refusal count segment place ≡ refused_values refusal 0
   unfolding step_at
   step-refused h = rw (ne_eqb refusal 0 (λ e. omega (arith, e)))
 
   module _ (none : refusal ≡ 0) where
-    pub step_end : count ≤ place → step_at k refusal count segment place ≡ step_values End
+    pub step_end : count ≤ place → step_at k refusal count segment place ≡ step_values (Ok None)
     unfolding step_at
     step_end h = rw (eq-eqb refusal 0 none, le-ltb place count h)
 
     module _ (more : place < count) where
-      pub step-drawn : is_segment_near k (segment place) ≡ true → step_at k refusal count segment place ≡ step_values (Drawn (segment place))
+      pub step-drawn : is_segment_near k (segment place) ≡ true → step_at k refusal count segment place ≡ step_values (Ok (Some (segment place)))
       unfolding step_at checked
       step-drawn e = rw (eq-eqb refusal 0 none, lt-ltb place count more, e)
 
-      pub step-corner : is_segment_near k (segment place) ≡ false → step_at k refusal count segment place ≡ step_values (Refused corner_refused (far_bend k (segment place)))
+      pub step-corner : is_segment_near k (segment place) ≡ false → step_at k refusal count segment place ≡ refused_values corner_refused (far_bend k (segment place))
       unfolding step_at checked
       step-corner e = rw (eq-eqb refusal 0 none, lt-ltb place count more, e)
 
@@ -73,8 +72,8 @@ at_zero = record { x = pos 0; y = pos 0 }
 abbrev zeros : JoinValues
 zeros = record { refusal = 0; bend = 0; kind = 0; ending = record { left = at_zero; right = at_zero }; starting = record { left = at_zero; right = at_zero }; origins = no_crossings; position = 0 }
 
-pub refused-zeros : (n b : ℕ) → step_values (Refused n b) ≡ record { refusal = n; bend = b; found = 0; start = zeros; end = zeros }
-unfolding step_values
+pub refused-zeros : (n b : ℕ) → (refused_values n b) ≡ record { refusal = n; bend = b; found = 0; start = zeros; end = zeros }
+unfolding step_values refused_values
 refused-zeros n b = refl
 
 -- where an answer leaves the walk: where no segment is answered, it stays
@@ -82,16 +81,16 @@ pub place_kept : (v : StepValues) (place : ℕ) → v.found ≢ 1 → place_from
 unfolding place_from
 place_kept v place other = rw (ne_eqb v.found 1 other)
 
-moved_on : {v : StepValues} (s : Segment) → v ≡ step_values (Drawn s) → (place : ℕ) → place_from v place ≡ place + 1
-unfolding place_from step_values
+moved_on : {v : StepValues} (s : Segment) → v ≡ step_values (Ok (Some s)) → (place : ℕ) → place_from v place ≡ place + 1
+unfolding place_from step_values refused_values
 moved_on s e place = rw e
 
-stayed : {v : StepValues} (n b : ℕ) → v ≡ step_values (Refused n b) → (place : ℕ) → place_from v place ≡ place
-unfolding place_from step_values
+stayed : {v : StepValues} (n b : ℕ) → v ≡ refused_values n b → (place : ℕ) → place_from v place ≡ place
+unfolding place_from step_values refused_values
 stayed n b e place = rw e
 
-ended : {v : StepValues} → v ≡ step_values End → (place : ℕ) → place_from v place ≡ place
-unfolding place_from step_values
+ended : {v : StepValues} → v ≡ step_values (Ok None) → (place : ℕ) → place_from v place ≡ place
+unfolding place_from step_values refused_values
 ended e place = rw e
 
 -- ---- many steps of a walk that its list and width do not refuse: `at p` is the walk at place p
@@ -105,7 +104,7 @@ module _ {W : Type 0} (k : ℕ) (answer : W → StepValues) (after : W → W) (a
   abbrev near : ℕ → Type 0
   near j = SegmentNear k (segment j)
 
-  here : {j : ℕ} → j < count → near j → step_at k 0 count segment j ≡ step_values (Drawn (segment j))
+  here : {j : ℕ} → j < count → near j → step_at k 0 count segment j ≡ step_values (Ok (Some (segment j)))
   here {j} h n = step-drawn k 0 count segment j refl h ((segment-near-iff k (segment j)).1 n)
 
   -- as long as the segments are near, the place after n steps is n
@@ -144,11 +143,11 @@ module _ {W : Type 0} (k : ℕ) (answer : W → StepValues) (after : W → W) (a
 
 module _ (k refusal count : ℕ) (segment : ℕ → Segment) (place : ℕ) where
   chain : (step_at k refusal count segment place).refusal ≡ cond (eqb refusal 0) (cond (ltb place count) (cond (is_segment_near k (segment place)) 0 5) 0) refusal
-  unfolding step_at checked step_values
+  unfolding step_at checked step_values refused_values
   chain = by (eqb refusal 0) (ltb place count) (is_segment_near k (segment place))
     where
       by : (t u v : Bool)
-          → (cond t (cond u (cond v (step_values (Drawn (segment place))) (step_values (Refused 5 (far_bend k (segment place))))) (step_values End)) (step_values (Refused refusal 0))).refusal ≡ cond t (cond u (cond v 0 5) 0) refusal
+          → (cond t (cond u (cond v (step_values (Ok (Some (segment place)))) (refused_values 5 (far_bend k (segment place)))) (step_values (Ok None))) (refused_values refusal 0)).refusal ≡ cond t (cond u (cond v 0 5) 0) refusal
       by true true true = refl
       by true true false = refl
       by true false v = refl
@@ -176,17 +175,17 @@ module _ (k refusal count : ℕ) (segment : ℕ → Segment) (place : ℕ) where
   -- ---- with 5 comes the first join of the segment that has such a corner
 
   abbrev values : Bool → Bool → Bool → StepValues
-  values t u v = cond t (cond u (cond v (step_values (Drawn (segment place))) (step_values (Refused 5 (far_bend k (segment place))))) (step_values End)) (step_values (Refused refusal 0))
+  values t u v = cond t (cond u (cond v (step_values (Ok (Some (segment place)))) (refused_values 5 (far_bend k (segment place)))) (step_values (Ok None))) (refused_values refusal 0)
 
   bend-five : (t u v : Bool) → refusal ≢ 5 → (values t u v).refusal ≡ 5 → (values t u v).bend ≡ far_bend k (segment place)
-  unfolding step_values
+  unfolding step_values refused_values
   bend-five true true true other e = absurd (omega arith)
   bend-five true true false other e = refl
   bend-five true false v other e = absurd (omega arith)
   bend-five false u v other e = absurd (other e)
 
   bend-else : (t u v : Bool) → (values t u v).refusal ≢ 5 → (values t u v).bend ≡ 0
-  unfolding step_values
+  unfolding step_values refused_values
   bend-else true true true other = refl
   bend-else true true false other = absurd (other refl)
   bend-else true false v other = refl
@@ -204,7 +203,7 @@ module _ (k refusal count : ℕ) (segment : ℕ → Segment) (place : ℕ) where
 
   -- the joins that are answered have the positions of the segment's
   joins-drawn : (t u v : Bool) → (values t u v).found ≡ 1 → ((values t u v).start.position ≡ (segment place).start.position) × ((values t u v).end.position ≡ (segment place).end.position)
-  unfolding step_values join_values
+  unfolding step_values refused_values join_values
   joins-drawn true true true e = (refl, refl)
   joins-drawn true true false e = absurd (omega arith)
   joins-drawn true false v e = absurd (omega arith)
@@ -216,7 +215,7 @@ module _ (k refusal count : ℕ) (segment : ℕ → Segment) (place : ℕ) where
 
   -- where a step is refused no segment is answered
   none-drawn : (t u v : Bool) → (values t u v).refusal ≢ 0 → (values t u v).found ≢ 1
-  unfolding step_values
+  unfolding step_values refused_values
   none-drawn true true true some e = some refl
   none-drawn true true false some e = omega arith
   none-drawn true false v some e = omega arith
@@ -283,21 +282,21 @@ refusal-told {A} told n {answer} {refused} none some = by (eqb n 0) refl
     by false e = some
 
 -- the values tell answers apart
-same-join : (a b : Join) → join_values (Made a) ≡ join_values (Made b) → a ≡ b
-same-join a b e = cc (join-values-tell (Made a) (Made b) e)
+same-join : (a b : Join) → join_values (Ok a) ≡ join_values (Ok b) → a ≡ b
+same-join a b e = cc (join-values-tell (Ok a) (Ok b) e)
 
 same-segment : (s t : Segment) → s.start ≡ t.start → s.end ≡ t.end → s ≡ t
 same-segment s t p q = rw (← p, ← q) refl
 
 pub values-tell : (s t : Step) → step_values s ≡ step_values t → s ≡ t
-unfolding step_values
-values-tell (Drawn s) (Drawn t) e =
-    ap Drawn (same-segment s t (same-join s.start t.start (ap (λ v. v.start) e)) (same-join s.end t.end (ap (λ v. v.end) e)))
-values-tell (Drawn s) End e = absurd (omega (arith, ap (λ v. v.found) e))
-values-tell (Drawn s) (Refused n b) e = absurd (omega (arith, ap (λ v. v.found) e))
-values-tell End (Drawn t) e = absurd (omega (arith, ap (λ v. v.found) e))
-values-tell End End e = refl
-values-tell End (Refused n b) e = absurd (omega (arith, ap (λ v. v.found) e))
-values-tell (Refused m a) (Drawn t) e = absurd (omega (arith, ap (λ v. v.found) e))
-values-tell (Refused m a) End e = absurd (omega (arith, ap (λ v. v.found) e))
-values-tell (Refused m a) (Refused n b) e = let number = ap (λ v. v.refusal) e in let bend = ap (λ v. v.bend) e in cc (number, bend)
+unfolding step_values refused_values
+values-tell (Ok (Some s)) (Ok (Some t)) e =
+    ap (λ d. Ok (Some d)) (same-segment s t (same-join s.start t.start (ap (λ v. v.start) e)) (same-join s.end t.end (ap (λ v. v.end) e)))
+values-tell (Ok (Some s)) (Ok None) e = absurd (omega (arith, ap (λ v. v.found) e))
+values-tell (Ok (Some s)) (Err r) e = absurd (omega (arith, ap (λ v. v.found) e))
+values-tell (Ok None) (Ok (Some t)) e = absurd (omega (arith, ap (λ v. v.found) e))
+values-tell (Ok None) (Ok None) e = refl
+values-tell (Ok None) (Err r) e = absurd (omega (arith, ap (λ v. v.found) e))
+values-tell (Err q) (Ok (Some t)) e = absurd (omega (arith, ap (λ v. v.found) e))
+values-tell (Err q) (Ok None) e = absurd (omega (arith, ap (λ v. v.found) e))
+values-tell (Err q) (Err r) e = ap Err (refusals-tell q r (ap (λ v. v.refusal) e) (ap (λ v. v.bend) e))

@@ -1,43 +1,47 @@
 -- How many pixels a row, a route and a file can have, and what the printing functions are handed. Assumes nothing.
-use mathlib.Core.Path.{◌≡◌, refl, ap, ◌∙◌}
-use mathlib.Core.Logic.{◌≢◌}
+use mathlib.Core.Path.{◌≡◌, refl, sym, ap, ◌∙◌}
+use mathlib.Core.Logic.{◌≢◌, ⊎_elim}
 use mathlib.Core.Bool.{Bool, true, false, cond}
-use mathlib.Core.List.{List}
-use Prim.Native.Nat.{ℕ, ◌+◌, ◌*◌, ◌<◌}
+use mathlib.Core.List.{List, []}
+use Prim.Native.Nat.{ℕ, ◌+◌, ◌*◌, ◌≤◌, ◌<◌}
 use native.Mathlib.Omega.{arith}
 use borrow.Author.Tests.{eq-eqb, ne_eqb, eqb-true, le-leb}
 use lib.Dec.{eqb}
 use lib.IntN.{ℤ, pos, neg_ℤ}
 use lib.ListN.{length, get_or, take, drop}
 use lib.Seq.{take-append_seam}
+use Rattle.std.specs.Prelude.{Option, Result, Ok, Err, IsOk}
 use Rattle.whole.specs.Number.{Within}
+use Rattle.whole.proofs.Linear.{le-or-lt}
+use Rattle.whole.proofs.Tests.{clash}
 use Rattle.whole.proofs.Columns.{count_most}
 use Rattle.whole.proofs.Bounds.{within_more}
 use Rattle.shapes.specs.declared.limits.Limits.{Limits}
 use Rattle.shapes.specs.Limits.{line_limit, Roomy}
+use Rattle.shapes.specs.declared.refusals.Refusal.{Refusal}
 use Rattle.shapes.specs.Refusals.{form_refused}
 use Rattle.board.specs.declared.Board.{Board}
 use Rattle.board.specs.Runs.{lit, total}
 use Rattle.board.specs.Boards.{Sound, live}
 use Rattle.board_laws.specs.Histories.{covered, columns}
 use Rattle.board_laws.proofs.Lit.{total-columns}
-use Rattle.route_file.specs.declared.Counted.{Counted}
-use Rattle.route_file.specs.Form.{said_length, is_formed, Formed}
-use Rattle.route_file.specs.Answers.{form_refusal, counted, described, coordinates, points_refusal, pointed, pointed_to}
-use Rattle.route_file.proofs.Laws.{true-formed, formed-true, nine-exactly, number_small, enough}
+use Rattle.route_file.specs.declared.Described.{Described}
+use Rattle.route_file.specs.Form.{route_count, said_length, is_formed, Formed}
+use Rattle.route_file.specs.Answers.{Counted, count_values, described_values, nothing, form_refusal, counted, described, coordinates, points_refusal, pointed, pointed_to}
+use Rattle.route_file.proofs.Laws.{true-formed, formed-true, nine-exactly, number_small, enough, found-exactly, entry-refusal, coordinates-none}
 use Rattle.route.specs.declared.Joins.{Joins}
-use Rattle.route.specs.declared.RowRange.{RowRange}
 use Rattle.route.specs.Joined.{Kept, joins_of}
-use Rattle.route.specs.Rows.{rows_in, RowsNear, row_count, rows_refusal}
+use Rattle.route.specs.Rows.{RowRange, rows_in, RowsNear, row_count, rows_refusal}
 use Rattle.route.specs.Answers.{draw_refusal, row_refusal, whole_refusal}
 use Rattle.route.specs.Words.{spans_on}
+use Rattle.shapes.proofs.Numbers.{number-some}
 use Rattle.route.proofs.Chains.{Ready, kept-route}
 use Rattle.shapes.proofs.Choices.{or-none}
 use Rattle.route.proofs.Drawn.{drawn-sound}
 use Rattle.route.proofs.Kept.{kept_more}
-use Rattle.route.proofs.Ranges.{rows-near, row_within, count_small}
+use Rattle.route.proofs.Ranges.{none-of-none, rows-near, row_within, count_small}
 use Rattle.route.proofs.Told.{row-columns}
-use Rattle.row_text.specs.Pixels.{lit_on, lit_at, lit_in, route_pixels, entry_pixels, all_pixels, file_pixels}
+use Rattle.row_text.specs.Pixels.{sum_from, lit_on, lit_at, lit_in, route_pixels, entry_pixels, all_pixels, file_pixels}
 use Rattle.row_text.proofs.Sums.{sum-within}
 
 -- ---- a row
@@ -136,12 +140,40 @@ module _ (f : List ℕ) {c : Counted} (is : c ≡ counted f) where
     unfolding file_pixels
     file-drawn limits = rw passed
 
+-- ---- a route that the file does not have
+
+-- a route of no points adds nothing
+empty-adds : (limits : Limits) → route_pixels limits false [] (pos 0) ≡ pos 0
+unfolding route_pixels lit_in sum_from
+empty-adds limits = rw (none-of-none limits.corner) (by (eqb (whole_refusal limits false [] (pos 0)) 0))
+  where
+    by : (t : Bool) → cond t (pos 0) (pos 0) ≡ pos 0
+    by true = refl
+    by false = refl
+
+module _ (f : List ℕ) (k : ℕ) (formed : Formed f) where
+  pub entry-none : (limits : Limits) → nothing 0 ≡ described f k → pos 0 ≡ entry_pixels limits f k
+  unfolding entry_pixels
+  entry-none limits e =
+      let past : route_count f ≤ k = ⊎_elim (λ le. le) (λ lt. absurd (clash ((found-exactly f k).1 (formed, lt)) (ap (λ d. d.found) (sym e)))) (le-or-lt (route_count f) k) in
+      rw (← e, coordinates-none f k past, empty-adds limits)
+
+  pub entry-ok : (r : Result (Option Described) Refusal) → described_values r ≡ described f k → IsOk r
+  unfolding form_refusal
+  entry-ok (Ok d) e = refl
+  entry-ok (Err r) e = absurd (number-some r (ap (λ d. d.refusal) e ∙ entry-refusal f k ∙ rw (formed-true formed)))
+
 -- ---- the points of a route of the file: 32,768 numbers are enough for them
 
 module _ {f : List ℕ} (k : ℕ) (formed : Formed f) (bytes : (i : ℕ) → get_or f i 0 < 256) (out : List ℤ) (long : length out ≡ 32768) where
   accepted : points_refusal f k (length out) ≡ 0
   unfolding points_refusal
   accepted = rw (formed-true formed, le-leb (length (coordinates f k)) (length out) (omega (arith, enough f k formed bytes)))
+
+  pub points-ok : (r : Result ℕ Refusal) → count_values r ≡ pointed f k (length out) → IsOk r
+  unfolding pointed
+  points-ok (Ok n) e = refl
+  points-ok (Err r) e = absurd (number-some r (ap (λ p. p.refusal) e ∙ accepted))
 
   pub handed-count : (pointed f k (length out)).count ≡ length (coordinates f k)
   unfolding pointed

@@ -6,9 +6,8 @@ use Rattle.board.specs.Boards.{live}
 use Rattle.route_file.specs.Form.{route_count, is_formed}
 use Rattle.route_file.specs.Answers.{described, coordinates}
 use Rattle.route.specs.declared.Joins.{Joins}
-use Rattle.route.specs.declared.RowRange.{RowRange}
 use Rattle.route.specs.Joined.{joins_of}
-use Rattle.route.specs.Rows.{board_on, rows_in, row_count, row_at}
+use Rattle.route.specs.Rows.{RowRange, board_on, rows_in, row_count, row_at}
 use Rattle.route.specs.Answers.{whole_refusal}
 
 -- `left` numbers, of the places from i on, added up

@@ -29,9 +29,8 @@ pub fn print_input() {
 pub fn print_file(file: &[u8]) -> i64
     ensures { result ≡ file_pixels panel_limits file.now }
 {
-    let counted = route_count(file);
-    if counted.refusal != 0 {
-        say_refused(counted.refusal);
+    if let Err(refusal) = route_count(file) {
+        say_refused(refusal);
         say(b"\n");
         return 0;
     }

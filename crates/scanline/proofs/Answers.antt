@@ -1,25 +1,25 @@
 -- The entries' refusals, each exactly when it is the first that holds, and what a refused answer has besides: for any limit k.
 -- Assumes nothing.
-use mathlib.Core.Path.{◌≡◌, refl, ap, ◌∙◌}
+use mathlib.Core.Path.{◌≡◌, refl, sym, ap, ◌∙◌}
 use mathlib.Core.Logic.{◌↔◌}
 use mathlib.Core.Bool.{Bool, true, false, ◌&&◌}
 use Prim.Native.Nat.{ℕ}
 use native.Mathlib.Omega.{arith}
-use lib.Dec.{eqb}
+use lib.Dec.{eqb, lit≤}
 use lib.IntN.{ℤ, pos}
 use Rattle.whole.specs.Number.{Within, is_within, eq_z}
+use Rattle.whole.proofs.Bounds.{within_more}
 use Rattle.whole.proofs.Laws.{within-iff}
 use Rattle.whole.proofs.Orders.{eq_z-iff}
 use Rattle.whole.proofs.Tests.{and-iff, eqb-iff, Chosen, chosen, never, bad-first, good-first, good-later}
 use Rattle.shapes.specs.declared.Line.{Line}
 use Rattle.shapes.specs.declared.Span.{Span}
+use Rattle.shapes.specs.Limits.{product_limit, line_limit, corner_limit}
 use Rattle.shapes.specs.Shape.{LineNear, is_line_near}
 use Rattle.shapes.specs.Spans.{span_of, SpanSound, is_span_sound}
 use Rattle.shapes.proofs.Columns.{sound-exactly}
-use Rattle.shapes.proofs.Laws.{line-near-iff}
-use Rattle.scanline.specs.declared.Spanned.{Spanned}
-use Rattle.scanline.specs.declared.Extended.{Extended}
-use Rattle.scanline.specs.declared.Taken.{Taken}
+use Rattle.shapes.proofs.Laws.{line-near-more, line-near-iff}
+use Rattle.scanline.specs.Answers.{Spanned, Extended, Taken}
 use Rattle.scanline.specs.Spans.{new_span, extended, try_extended, try_taken}
 use Rattle.scanline.specs.Meeting.{met}
 use Rattle.scanline.specs.Answers.{row_refusal, span_refusal, extend_refusal, meet_refusal, join_refusal, spanned, fresh_answer, extend_answer, meet_answer, try_extend_answer, try_take_answer}
@@ -112,6 +112,16 @@ module _ (k : ℕ) (s : Span) (l : Line) where
   pub meet-none : (meet_refusal k s l ≡ 0) ↔ (LineNear k l × (Within s.row k × SpanSound k s))
   unfolding meet_refusal
   meet-none = good-later (is_line_near k l) (line-near-iff k l) (λ e. omega arith) (span_none k s)
+
+-- ---- what passes the tests is small enough for 64 bits
+
+pub column-room : (s : Span) (c : ℤ) → 0 ≡ extend_refusal corner_limit s c → Within c product_limit
+column-room s c e = within_more ((extend-none corner_limit s c).0 (sym e)).1.1 (lit≤ tt)
+
+pub line-room : (s : Span) (l : Line) → 0 ≡ meet_refusal corner_limit s l → LineNear line_limit l
+line-room s l e = line-near-more ((meet-none corner_limit s l).0 (sym e)).0 (lit≤ tt)
+
+pub ruleset room = (column-room, line-room)
 
 -- ---- the entries: the answer where there is no refusal, else the refusal with the span handed in as it was
 

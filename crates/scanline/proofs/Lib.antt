@@ -1,4 +1,5 @@
 pub mod Answers
+pub mod Choices
 pub mod Folds
 pub mod Laws
 pub mod Printed

@@ -8,27 +8,24 @@ ghost use Rattle.scanline.specs.Rows.{has_row, Sizes, last_at, first_at, ends_at
 use bresenham::inner::direction;
 use shapes::Line;
 use shapes::inner::delta;
-use whole::inner::{both, greater, lesser, size};
 
 /// How many columns from a line's start the first and the last of its points on a row are.
-#[derive(Clone, Copy)]
+#[derive(Clone, Copy, Debug, PartialEq, Eq)]
 pub struct Ends {
     pub first: u64,
     pub last: u64,
 }
 
 /// Whether a row is one of the line's rows.
+#[tactic(auto, using(crate::proofs::Choices::choices), unfolding(crate::specs::Rows::has_row))]
 pub fn has_row(line: Line, row: i64) -> bool
     ensures { result ≡ has_row line row }
 {
-    let start = line.start;
-    let end = line.end;
-    let y = start.y;
-    let z = end.y;
-    both(lesser(y, z) <= row, row <= greater(y, z))
+    line.start.y.min(line.end.y) <= row && row <= line.start.y.max(line.end.y)
 }
 
 /// How many columns a line of more rows than columns has gone when it comes to a row.
+#[tactic(auto, using(crate::proofs::Rows::product_small), unfolding(bresenham::specs::Paces::turns_at))]
 fn turns_at(h: u64, w: u64, r: u64) -> u64
     requires sizes { Sizes w h r }
     requires w_lt_h { w < h }
@@ -38,6 +35,7 @@ fn turns_at(h: u64, w: u64, r: u64) -> u64
 }
 
 /// How many columns another line has gone at its last point on a row.
+#[tactic(auto, using(crate::proofs::Rows::product_small), unfolding(crate::specs::Rows::last_at))]
 fn last_at(w: u64, h: u64, r: u64) -> u64
     requires { Sizes w h r }
     ensures { result ≡ last_at w h r }
@@ -49,6 +47,7 @@ fn last_at(w: u64, h: u64, r: u64) -> u64
 }
 
 /// The same at its first point there.
+#[tactic(auto, unfolding(crate::specs::Rows::first_at))]
 fn first_at(w: u64, h: u64, r: u64) -> u64
     requires sizes { Sizes w h r }
     requires h_le_w { h ≤ w }
@@ -61,6 +60,7 @@ fn first_at(w: u64, h: u64, r: u64) -> u64
 }
 
 /// Both, of a line that goes `w` columns and `h` rows, on the row that is `r` rows from its start.
+#[tactic(auto, unfolding(crate::specs::Rows::ends_at))]
 fn ends_at(w: u64, h: u64, r: u64) -> Ends
     requires { Sizes w h r }
     ensures { result ≡ ends_at w h r }
@@ -79,15 +79,18 @@ fn ends_at(w: u64, h: u64, r: u64) -> Ends
 }
 
 /// Both, of a line on one of its rows.
+#[tactic(auto, unfolding(crate::specs::Rows::ends_on))]
 pub fn ends_on(line: Line, row: i64) -> Ends
     requires line_near { LineNear line_limit line }
     requires between { Between line.start.y line.end.y row }
     ensures { result ≡ ends_on line row }
 {
-    let start = line.start;
-    let y = start.y;
     let d = delta(line);
-    ends_at(size(d.x), size(d.y), size(row - y))
+    ends_at(
+        d.x.unsigned_abs(),
+        d.y.unsigned_abs(),
+        (row - line.start.y).unsigned_abs(),
+    )
 }
 
 /// The column that is `k` columns from a line's start, toward its end.
@@ -96,8 +99,6 @@ pub fn column_at(line: Line, k: u64) -> i64
     requires k_bound { k ≤ 2 ^ 15 }
     ensures { result ≡ column_at line k }
 {
-    let start = line.start;
-    let x = start.x;
     let d = delta(line);
-    x + k as i64 * direction(d.x)
+    line.start.x + k as i64 * direction(d.x)
 }

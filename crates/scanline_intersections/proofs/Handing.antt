@@ -15,17 +15,15 @@ use Rattle.shapes.specs.declared.limits.Limits.{Limits}
 use Rattle.shapes.specs.declared.Span.{Span}
 use Rattle.shapes.specs.Spans.{Covers, is_empty, SpanSound}
 use Rattle.shapes.proofs.Columns.{covers-some}
-use Rattle.scanline.specs.declared.Handed.{Handed}
-use Rattle.scanline.specs.Spans.{new_span, try_extended, try_taken}
+use Rattle.scanline.specs.Spans.{Handed, new_span, try_extended, try_taken}
 use Rattle.scanline.proofs.Laws.{joined-covers, take-some, take_none}
 use Rattle.thick_segment.proofs.Laws.{span-least, span-sound}
 use Rattle.coordinates.specs.Refusal.{Accepted}
 use Rattle.route_joins.specs.Joins.{open_segment, open_count}
 use Rattle.route_joins.proofs.Near.{joins-exactly}
 use Rattle.scanline_intersections.specs.declared.Intersections.{Intersections}
-use Rattle.scanline_intersections.specs.declared.Merged.{Merged}
 use Rattle.scanline_intersections.specs.Segments.{span_at, spans_from}
-use Rattle.scanline_intersections.specs.Merging.{walk_of, merged_next, next_merged, merged_all}
+use Rattle.scanline_intersections.specs.Merging.{Merged, walk_of, merged_next, next_merged, merged_all}
 use Rattle.scanline_intersections.specs.Answers.{start_refusal, polyline_start, next_refusal, next_answer}
 use Rattle.scanline_intersections.specs.Words.{Covered, OnSegment, HandsOut, done, more}
 use Rattle.scanline_intersections.proofs.Merging.{merged-covers, some_left, joined-row, covered-place, place-covered}

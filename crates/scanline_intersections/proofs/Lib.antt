@@ -1,3 +1,4 @@
+pub mod Entries
 pub mod Handing
 pub mod Merging
 pub mod Polyline

@@ -28,9 +28,8 @@ use Rattle.route_joins.proofs.Near.{joins-exactly}
 use Rattle.route_joins.proofs.Walks.{refusal-told}
 use Rattle.route_joins.proofs.Bends.{route-bend}
 use Rattle.scanline_intersections.specs.declared.Intersections.{Intersections}
-use Rattle.scanline_intersections.specs.declared.Merged.{Merged}
 use Rattle.scanline_intersections.specs.Segments.{spans_from}
-use Rattle.scanline_intersections.specs.Merging.{walk_of, merged_next, next_merged}
+use Rattle.scanline_intersections.specs.Merging.{Merged, walk_of, merged_next, next_merged}
 use Rattle.scanline_intersections.specs.Answers.{start_refusal, polyline_start, next_refusal, next_answer}
 
 -- what is merged is no refusal

@@ -19,7 +19,7 @@ use Rattle.thick_segment.specs.Words.{joins_in}
 use Rattle.coordinates.specs.Points.{points_of}
 use Rattle.coordinates.specs.Refusal.{route_refusal, Accepted}
 use Rattle.coordinates.proofs.Laws.{accepted-exactly}
-use Rattle.route_joins.specs.declared.Step.TheVariants.{Drawn}
+use Rattle.std.specs.Prelude.{Some, Ok}
 use Rattle.route_joins.specs.Joins.{end_place, standing, open_segment, open_count}
 use Rattle.route_joins.specs.Steps.{step_values, after_steps, StepTold, SegmentBySegment}
 use Rattle.route_joins.proofs.Walks.{place_kept, route-told, route-in-turn, route-five, route-other, route-step-bend, route-step-positions, route-refused-none}
@@ -44,8 +44,8 @@ module _ (limits : Limits) (cs : List ℤ) (w row : ℤ) (accepted : Accepted li
 
   -- the k-th step answers the k-th segment that the Rust's `next_segment` gives, with the positions k and k + 1
   pub steps-drawn : (d : Segment) (k : ℕ) → k < open_count cs → ((j : ℕ) → j < k + 1 → SegmentNear limits.corner (open_segment cs w j))
-      → polyline_step limits cs (after_steps (after_polyline limits cs) (polyline_start limits cs w row).walk k) ≡ step_values (Drawn (standing k (k + 1) (get_or (polyline_segments w (points_of cs)) k d)))
-  steps-drawn d k h f = segment-by-segment.drawn k h f ∙ ap (λ s. step_values (Drawn s)) (sym (segment-stands cs w k) ∙ ap (standing k (k + 1)) (sym (polyline-at cs w d k h)))
+      → polyline_step limits cs (after_steps (after_polyline limits cs) (polyline_start limits cs w row).walk k) ≡ step_values (Ok (Some (standing k (k + 1) (get_or (polyline_segments w (points_of cs)) k d))))
+  steps-drawn d k h f = segment-by-segment.drawn k h f ∙ ap (λ s. step_values (Ok (Some s))) (sym (segment-stands cs w k) ∙ ap (standing k (k + 1)) (sym (polyline-at cs w d k h)))
 
 module _ (limits : Limits) (cs : List ℤ) (walk : Intersections) where
   -- ---- the open walk at the same place with the same width answers the same, whatever the list, and goes to the same place

@@ -1,25 +1,32 @@
 -- The entries' answers, for any limits. A refusal has 0 in every other field, but with 5 comes a position, and the walk handed in comes back
 -- as it was.
-use Rattle.std.specs.Prelude.{false, cond, List, ℕ, eqb, ℤ, pos}
+use Rattle.std.specs.Prelude.{false, cond, List, ℕ, eqb, ℤ, pos, Result, Ok, Err}
 use Rattle.whole.specs.Number.{is_within}
 use Rattle.shapes.specs.declared.limits.Limits.{Limits}
 use Rattle.shapes.specs.declared.Offset.TheVariants.{None}
-use Rattle.shapes.specs.Refusals.{corner_refused, row_refused, or_else}
+use Rattle.shapes.specs.declared.refusals.Refusal.{Refusal}
+use Rattle.shapes.specs.Refusals.{corner_refused, row_refused, or_else, number_of}
 use Rattle.scanline.specs.Spans.{new_span}
 use Rattle.scanline.specs.Answers.{span_refusal}
 use Rattle.coordinates.specs.Refusal.{route_refusal}
 use Rattle.route_joins.specs.Joins.{are_joins_near, route_bend}
 use Rattle.route_joins.specs.Steps.{StepValues, route_step, place_from}
 use Rattle.scanline_intersections.specs.declared.Intersections.{Intersections}
-use Rattle.scanline_intersections.specs.declared.Started.{Started}
-use Rattle.scanline_intersections.specs.declared.Merged.{Merged}
-use Rattle.scanline_intersections.specs.declared.Verdict.{Verdict}
-use Rattle.scanline_intersections.specs.Merging.{walk_of, next_merged}
+use Rattle.scanline_intersections.specs.Merging.{Merged, walk_of, next_merged}
 
 -- ---- start: what the list and the width are refused with, then 6, a row outside
 
 unfoldable pub start_refusal : Limits → List ℤ → ℤ → ℤ → ℕ
 start_refusal limits cs w row = or_else (route_refusal limits.point false cs w) (cond (is_within limits.corner row) 0 row_refused)
+
+-- a walk at its first segment, or a refusal with zeros
+pub record Started : Type 0 where
+  pub refusal : ℕ
+  pub walk : Intersections
+
+abbrev pub start_values : Result Intersections Refusal → Started
+start_values (Ok walk) = record { refusal = 0; walk = walk }
+start_values (Err r) = record { refusal = number_of r; walk = walk_of 0 (pos 0) (new_span (pos 0)) }
 
 unfoldable pub polyline_start : Limits → List ℤ → ℤ → ℤ → Started
 polyline_start limits cs w row =
@@ -43,9 +50,6 @@ next_refusal limits cs walk =
     (cond (are_joins_near limits.corner false cs walk.width) (span_refusal limits.corner walk.span) corner_refused)
 
 -- with the position that comes with 5
-abbrev pub next_verdict : Limits → List ℤ → Intersections → Verdict
-next_verdict limits cs walk = record { refusal = next_refusal limits cs walk; bend = route_bend limits false cs walk.width }
-
 unfoldable pub next_answer : Limits → List ℤ → Intersections → Merged
 next_answer limits cs walk =
     let n = next_refusal limits cs walk in

@@ -1,12 +1,28 @@
 -- The Rust's `next` with W6: spans are gathered by `try_extend`; where that says no, what is gathered is handed out, and the other
 -- span is gathered from then on; at the end `try_take` decides.
-use Rattle.std.specs.Prelude.{true, cond, List, [], ◌∷◌, ℕ, ◌+◌, ℤ}
+use Rattle.std.specs.Prelude.{Bool, true, false, cond, List, [], ◌∷◌, ℕ, ◌+◌, ℤ, pos, Option, Some, None, Result, Ok, Err}
 use Rattle.shapes.specs.declared.Span.{Span}
 use Rattle.shapes.specs.Spans.{is_empty}
-use Rattle.scanline.specs.Spans.{try_extended, try_taken}
+use Rattle.shapes.specs.declared.refusals.Refusal.{Refusal}
+use Rattle.shapes.specs.Refusals.{number_of, bend_of}
+use Rattle.scanline.specs.Spans.{new_span, try_extended, try_taken}
 use Rattle.scanline_intersections.specs.declared.Intersections.{Intersections}
-use Rattle.scanline_intersections.specs.declared.Merged.{Merged}
 use Rattle.scanline_intersections.specs.Segments.{spans_from}
+
+-- whether there is one more merged span, that span (else 0, 0 to 0), and the walk after it; or the refusal, with the position that comes
+-- with 5
+pub record Merged : Type 0 where
+  pub refusal : ℕ
+  pub bend : ℕ
+  pub found : Bool
+  pub span : Span
+  pub walk : Intersections
+
+-- of an answer and the walk after it
+abbrev pub merged_values : Result (Option Span) Refusal → Intersections → Merged
+merged_values (Ok (Some s)) walk = record { refusal = 0; bend = 0; found = true; span = s; walk = walk }
+merged_values (Ok None) walk = record { refusal = 0; bend = 0; found = false; span = new_span (pos 0); walk = walk }
+merged_values (Err r) walk = record { refusal = number_of r; bend = bend_of r; found = false; span = new_span (pos 0); walk = walk }
 
 abbrev pub walk_of : ℕ → ℤ → Span → Intersections
 walk_of place w s = record { place = place; width = w; span = s }

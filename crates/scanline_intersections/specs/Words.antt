@@ -4,7 +4,7 @@ use Rattle.shapes.specs.declared.Span.{Span}
 use Rattle.shapes.specs.Spans.{Covers}
 use Rattle.route_joins.specs.Joins.{open_count}
 use Rattle.scanline_intersections.specs.declared.Intersections.{Intersections}
-use Rattle.scanline_intersections.specs.declared.Merged.{Merged}
+use Rattle.scanline_intersections.specs.Merging.{Merged}
 use Rattle.scanline_intersections.specs.Segments.{span_at}
 
 -- one of the spans has the column

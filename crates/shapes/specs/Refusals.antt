@@ -1,5 +1,7 @@
 -- 01, "What each number says", and K6's 12: each once, by name, in the order in which they are tested. 0 is none.
-use Rattle.std.specs.Prelude.{cond, ℕ, eqb}
+use Rattle.std.specs.Prelude.{cond, ℕ, eqb, Result, Ok, Err}
+use Rattle.shapes.specs.declared.refusals.Refusal.{Refusal}
+use Rattle.shapes.specs.declared.refusals.Refusal.TheVariants.{Form, Odd, Points, Width, Coordinate, Doubled, Corner, Row, Column, Room}
 
 -- the route file's form is wrong
 abbrev pub form_refused : ℕ
@@ -45,3 +47,39 @@ room_refused = 8
 -- the first of two that is a refusal
 abbrev pub or_else : ℕ → ℕ → ℕ
 or_else first second = cond (eqb first 0) second first
+
+-- ---- the number of a refusal, and the position that comes with 5
+
+abbrev pub number_of : Refusal → ℕ
+number_of Form = form_refused
+number_of Odd = odd_refused
+number_of Points = points_refused
+number_of Width = width_refused
+number_of Coordinate = coordinate_refused
+number_of Doubled = doubled_refused
+number_of (Corner p) = corner_refused
+number_of Row = row_refused
+number_of Column = column_refused
+number_of Room = room_refused
+
+abbrev pub bend_of : Refusal → ℕ
+bend_of Form = 0
+bend_of Odd = 0
+bend_of Points = 0
+bend_of Width = 0
+bend_of Coordinate = 0
+bend_of Doubled = 0
+bend_of (Corner p) = p
+bend_of Row = 0
+bend_of Column = 0
+bend_of Room = 0
+
+-- the number of what is refused, 0 of what is answered
+abbrev pub refusal_in : {A : Type 0} → Result A Refusal → ℕ
+refusal_in (Ok a) = 0
+refusal_in (Err r) = number_of r
+
+-- the position that comes with 5, in every other case 0
+abbrev pub bend_in : {A : Type 0} → Result A Refusal → ℕ
+bend_in (Ok a) = 0
+bend_in (Err r) = bend_of r

@@ -7,34 +7,34 @@ ghost use Rattle.shapes.specs.Shape.{quarter_turn, determinant as determinant_of
 ghost use Rattle.shapes.specs.Shape.{delta as delta_of, perpendicular as perpendicular_of, midpoint as midpoint_of};
 
 use crate::{Line, Point};
-use whole::inner::{both, within};
+use whole::inner::within;
 
 /// Whether both coordinates are from `-limit` to `limit`.
+#[tactic(auto, unfolding(crate::specs::Shape::is_near))]
 pub fn is_near(p: Point, limit: u32) -> bool
     ensures { result ≡ is_near limit p }
 {
-    both(within(p.x, limit), within(p.y, limit))
+    within(p.x, limit) && within(p.y, limit)
 }
 
 /// Whether all four coordinates are from `-limit` to `limit`.
+#[tactic(auto, unfolding(crate::specs::Shape::is_line_near))]
 pub fn is_line_near(line: Line, limit: u32) -> bool
     ensures { result ≡ is_line_near limit line }
 {
-    both(is_near(line.start, limit), is_near(line.end, limit))
+    is_near(line.start, limit) && is_near(line.end, limit)
 }
 
 /// Whether two points are the same.
+#[tactic(auto, unfolding(crate::specs::Shape::same_point))]
 pub fn same_point(a: Point, b: Point) -> bool
     ensures { result ≡ same_point a b }
 {
-    let ax = a.x;
-    let ay = a.y;
-    let bx = b.x;
-    let by = b.y;
-    both(ax == bx, ay == by)
+    a == b
 }
 
 /// The sum of two points.
+#[tactic(auto, unfolding(crate::specs::Shape::plus))]
 pub fn plus(a: Point, b: Point) -> Point
     requires near { Near product_limit a }
     requires near_2 { Near product_limit b }
@@ -47,6 +47,7 @@ pub fn plus(a: Point, b: Point) -> Point
 }
 
 /// The first point less the second.
+#[tactic(auto, unfolding(crate::specs::Shape::minus))]
 pub fn minus(a: Point, b: Point) -> Point
     requires near { Near product_limit a }
     requires near_2 { Near product_limit b }
@@ -59,6 +60,7 @@ pub fn minus(a: Point, b: Point) -> Point
 }
 
 /// A quarter turn about (0,0): (x,y) to (-y,x).
+#[tactic(auto, unfolding(crate::specs::Shape::quarter_turn))]
 pub fn quarter_turn(p: Point) -> Point
     requires { Near product_limit p }
     ensures { result ≡ quarter_turn p }
@@ -67,6 +69,7 @@ pub fn quarter_turn(p: Point) -> Point
 }
 
 /// The determinant of two points.
+#[tactic(auto, unfolding(crate::specs::Shape::determinant))]
 pub fn determinant(a: Point, b: Point) -> i64
     requires near { Near product_limit a }
     requires near_2 { Near product_limit b }
@@ -76,6 +79,7 @@ pub fn determinant(a: Point, b: Point) -> i64
 }
 
 /// The dot product of two points.
+#[tactic(auto, unfolding(crate::specs::Shape::dot_product))]
 pub fn dot_product(a: Point, b: Point) -> i64
     requires near { Near product_limit a }
     requires near_2 { Near product_limit b }
@@ -85,6 +89,7 @@ pub fn dot_product(a: Point, b: Point) -> i64
 }
 
 /// The square of a point's distance from (0,0).
+#[tactic(auto, unfolding(crate::specs::Shape::squared_length))]
 pub fn squared_length(p: Point) -> i64
     requires { Near product_limit p }
     ensures { result ≡ squared_length p }
@@ -93,6 +98,7 @@ pub fn squared_length(p: Point) -> i64
 }
 
 /// A line's end less its start.
+#[tactic(auto, unfolding(crate::specs::Shape::delta))]
 pub fn delta(line: Line) -> Point
     requires { LineNear product_limit line }
     ensures { result ≡ delta_of line }
@@ -101,6 +107,7 @@ pub fn delta(line: Line) -> Point
 }
 
 /// The line from the same start whose delta is turned: (x,y) to (y,-x).
+#[tactic(auto, unfolding(crate::specs::Shape::perpendicular))]
 pub fn perpendicular(line: Line) -> Line
     requires { LineNear line_limit line }
     ensures { result ≡ perpendicular_of line }
@@ -113,6 +120,7 @@ pub fn perpendicular(line: Line) -> Line
 }
 
 /// The point half way along a line, each half of the delta truncated toward zero.
+#[tactic(auto, unfolding(crate::specs::Shape::midpoint))]
 pub fn midpoint(line: Line) -> Point
     requires { LineNear line_limit line }
     ensures { result ≡ midpoint_of line }

@@ -1,105 +1,70 @@
-//! What each refusal's number says. 0 is none. Each constant has a function that is proved to answer the number of
-//! specs/Refusals.antt.
+//! Why an entry refuses. Each refusal has the number of the table in README, and 5 the position of a bend.
 ghost use Rattle.std.specs.Prelude.{◌≡◌};
-ghost use Rattle.shapes.specs.Refusals.{form_refused, odd_refused, points_refused, width_refused, coordinate_refused};
-ghost use Rattle.shapes.specs.Refusals.{doubled_refused, corner_refused, row_refused, column_refused, room_refused, or_else};
+ghost use Rattle.shapes.specs.Refusals.{number_of, bend_of};
 
-/// A route file's form is wrong.
-pub const FORM: u64 = 9;
+use std::fmt;
 
-/// A list of coordinates has odd length.
-pub const ODD: u64 = 1;
-
-/// More than 256 points, or a closed route of one point.
-pub const POINTS: u64 = 2;
-
-/// A width outside 0 to 64.
-pub const WIDTH: u64 = 3;
-
-/// A coordinate outside its limit.
-pub const COORDINATE: u64 = 4;
-
-/// Two consecutive points of a route are equal.
-pub const DOUBLED: u64 = 12;
-
-/// A join with a corner outside 4,095.
-pub const CORNER: u64 = 5;
-
-/// A row outside 4,095, a board that no fresh board can come to, or two rows that differ.
-pub const ROW: u64 = 6;
-
-/// A column outside 4,095.
-pub const COLUMN: u64 = 7;
-
-/// No room.
-pub const ROOM: u64 = 8;
-
-fn form() -> u64
-    ensures { result ≡ form_refused }
-{
-    FORM
+/// Why an entry works nothing out.
+#[derive(Clone, Copy, Debug, PartialEq, Eq)]
+pub enum Refusal {
+    /// 9: a route file's form is wrong.
+    Form,
+    /// 1: a list of coordinates has odd length.
+    Odd,
+    /// 2: more than 256 points, or a closed route of one point.
+    Points,
+    /// 3: a width outside 0 to 64.
+    Width,
+    /// 4: a coordinate outside its limit.
+    Coordinate,
+    /// 12: two consecutive points of a route are equal.
+    Doubled,
+    /// 5: a join with a corner outside 4,095; the number is the position of the first that has one.
+    Corner(usize),
+    /// 6: a row outside 4,095, a board that no fresh board can come to, or two rows that differ.
+    Row,
+    /// 7: a column outside 4,095.
+    Column,
+    /// 8: no room.
+    Room,
 }
 
-fn odd() -> u64
-    ensures { result ≡ odd_refused }
-{
-    ODD
-}
-
-fn points() -> u64
-    ensures { result ≡ points_refused }
-{
-    POINTS
-}
-
-fn width() -> u64
-    ensures { result ≡ width_refused }
-{
-    WIDTH
-}
-
-fn coordinate() -> u64
-    ensures { result ≡ coordinate_refused }
-{
-    COORDINATE
-}
-
-fn doubled() -> u64
-    ensures { result ≡ doubled_refused }
-{
-    DOUBLED
-}
-
-fn corner() -> u64
-    ensures { result ≡ corner_refused }
-{
-    CORNER
-}
-
-fn row() -> u64
-    ensures { result ≡ row_refused }
-{
-    ROW
-}
-
-fn column() -> u64
-    ensures { result ≡ column_refused }
-{
-    COLUMN
-}
-
-fn room() -> u64
-    ensures { result ≡ room_refused }
-{
-    ROOM
-}
-
-/// The first of two refusals, or 0 where neither is one.
-pub fn or_else(first: u64, second: u64) -> u64
-    ensures { result ≡ or_else first second }
-{
-    if first == 0 {
-        return second;
+impl Refusal {
+    /// The refusal's number, which is never 0.
+    pub fn number(self) -> u64
+        ensures { result ≡ number_of self }
+    {
+        match self {
+            Refusal::Form => 9,
+            Refusal::Odd => 1,
+            Refusal::Points => 2,
+            Refusal::Width => 3,
+            Refusal::Coordinate => 4,
+            Refusal::Doubled => 12,
+            Refusal::Corner(_) => 5,
+            Refusal::Row => 6,
+            Refusal::Column => 7,
+            Refusal::Room => 8,
+        }
     }
-    first
+
+    /// The position of the bend that comes with 5; 0 with every other number.
+    pub fn bend(self) -> usize
+        ensures { result ≡ bend_of self }
+    {
+        match self {
+            Refusal::Corner(position) => position,
+            _ => 0,
+        }
+    }
+}
+
+/// `refused`, the number, and behind 5 the position of the bend.
+impl fmt::Display for Refusal {
+    fn fmt<W: fmt::Write>(&self, f: &mut fmt::Formatter<W>) -> fmt::Result {
+        match self {
+            Refusal::Corner(position) => write!(f, "refused 5 {position}"),
+            refusal => write!(f, "refused {}", refusal.number()),
+        }
+    }
 }

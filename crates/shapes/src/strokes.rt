@@ -1,30 +1,29 @@
 //! A stroke's width, and what a stroke's input is refused with.
 ghost use Rattle.std.specs.Prelude.{◌≡◌};
+ghost use Rattle.shapes.specs.Refusals.{refusal_in};
 ghost use Rattle.shapes.specs.Strokes.{is_thin, stroke_refusal};
 
 use crate::limits;
-use crate::refusals::{COORDINATE, WIDTH};
+use crate::refusals::Refusal;
 
 /// Whether a width is from 0 to 64.
+#[tactic(auto, unfolding(crate::specs::Strokes::is_thin))]
 pub fn is_thin(width: i64) -> bool
     ensures { result ≡ is_thin width }
 {
-    if width < 0 {
-        return false;
-    }
-    width <= limits::WIDTH
+    0 <= width && width <= limits::WIDTH
 }
 
-/// What a stroke's input is refused with, 0 where it is not: 3 for a width outside 0 to 64; then 4 for coordinates that are not
-/// `near`.
-pub fn stroke_refusal(width: i64, near: bool) -> u64
-    ensures { result ≡ stroke_refusal width near }
+/// Refuses a stroke's input: with 3 a width outside 0 to 64; then with 4 coordinates that are not `near`.
+#[tactic(auto, unfolding(crate::specs::Strokes::stroke_refusal))]
+pub fn check_stroke(width: i64, near: bool) -> Result<(), Refusal>
+    ensures { refusal_in result ≡ stroke_refusal width near }
 {
-    if is_thin(width) {
-        if near {
-            return 0;
-        }
-        return COORDINATE;
+    if !is_thin(width) {
+        return Err(Refusal::Width);
     }
-    WIDTH
+    if !near {
+        return Err(Refusal::Coordinate);
+    }
+    Ok(())
 }

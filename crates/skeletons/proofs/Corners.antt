@@ -15,7 +15,7 @@ use Rattle.shapes.specs.Shape.{line_of, determinant, delta}
 use Rattle.intersection_params.specs.declared.Intersection.{Intersection}
 use Rattle.intersection_params.specs.declared.Intersection.TheVariants.{At, Colinear}
 use Rattle.intersection_params.specs.Words.{bend, IsDrawn}
-use Rattle.extents.specs.declared.Edges.{Edges}
+use Rattle.extents.specs.Sides.{Edges}
 use Rattle.extents.specs.Edges.{extents_of}
 use Rattle.line_join.specs.declared.Join.{Join}
 use Rattle.line_join.specs.Miter.{reaches}

@@ -23,7 +23,7 @@ use Rattle.parallels.specs.Parallels.{swapped, followed, flank_at, sided, falls,
 use Rattle.parallels.proofs.Laws.{this-flank, other-flank, going_next}
 use Rattle.parallels.proofs.Plans.{thickness-of, begins-with, going_start, sound-plan, ready-fresh}
 use Rattle.extents.specs.declared.Edge.{Edge}
-use Rattle.extents.specs.declared.Ends.{Ends}
+use Rattle.extents.specs.Sides.{Ends}
 use Rattle.extents.specs.Edges.{placed, seen, lasts, fresh_ends}
 use Rattle.skeletons.specs.Treads.{Mark, March, Arrived, tread_of, trod, trod_by, stepped, arrived_at, march, set_out, most_of, marched}
 use Rattle.skeletons.proofs.Legs.{measured}

@@ -18,8 +18,8 @@ use Rattle.bresenham.proofs.Laws.{sides}
 use Rattle.parallels.specs.Parallels.{aimed, plan_along, plan_of, parallels_of}
 use Rattle.parallels.proofs.Plans.{sound-plan}
 use Rattle.extents.specs.declared.Edge.{Edge}
-use Rattle.extents.specs.declared.Edges.{Edges}
-use Rattle.extents.specs.declared.Ends.{Ends}
+use Rattle.extents.specs.Sides.{Edges}
+use Rattle.extents.specs.Sides.{Ends}
 use Rattle.extents.specs.Edges.{lasts, fresh_edge, fresh_ends, closed, extents_of}
 use Rattle.extents.proofs.Laws.{closed-fresh}
 use Rattle.skeletons.specs.Treads.{Mark, Arrived, mark_of, marched}

@@ -6,16 +6,15 @@ ghost use Rattle.line_join.specs.Join.{corners_of};
 ghost use Rattle.test_joins.specs.Joins.{kind_of, join_at};
 
 use line_join::trace::no_crossings;
-use line_join::{Corners, Join, Kind, Origin};
+use line_join::{Corners, Join, Kind, Origin, Origins};
 use shapes::{Divisions, Line, Side};
+use std::fmt;
 use test_numbers::number_at;
-use test_text::{after, line_at, say_point};
+use test_text::{after, line_at};
 use whole::Division;
-use whole::inner::size;
-use writing::{say, say_count};
 
 /// A join that was read, and the place of the number after it.
-#[derive(Clone, Copy)]
+#[derive(Clone, Copy, Debug, PartialEq, Eq)]
 pub struct JoinAt {
     pub join: Join,
     pub next: usize,
@@ -23,6 +22,7 @@ pub struct JoinAt {
 
 /// The join at a place: a digit for its kind, its position, and eight coordinates, a byte between each two. The corners at which
 /// the line before it ends come first, left before right; no corner is told to be a crossing. A position has no sign.
+#[tactic(auto, unfolding(crate::specs::Joins::join_at))]
 pub fn join_at(s: &[u8], at: usize) -> JoinAt
     ensures { result ≡ join_at s.now at }
 {
@@ -30,15 +30,13 @@ pub fn join_at(s: &[u8], at: usize) -> JoinAt
     let position = number_at(s, after(after(at)));
     let first = line_at(s, after(position.next));
     let second = line_at(s, first.next);
-    let ending = first.line;
-    let starting = second.line;
     JoinAt {
         join: Join {
             kind,
-            ending: corners_of(ending),
-            starting: corners_of(starting),
+            ending: corners_of(first.line),
+            starting: corners_of(second.line),
             origins: no_crossings(),
-            position: size(position.value) as usize,
+            position: position.value.unsigned_abs() as usize,
         },
         next: second.next,
     }
@@ -48,12 +46,14 @@ pub fn join_at(s: &[u8], at: usize) -> JoinAt
 fn corners_of(line: Line) -> Corners
     ensures { result ≡ corners_of line.start line.end }
 {
-    let left = line.start;
-    let right = line.end;
-    Corners { left, right }
+    Corners {
+        left: line.start,
+        right: line.end,
+    }
 }
 
 /// The kind that a digit stands for; all else is the end of a route.
+#[tactic(auto, unfolding(crate::specs::Joins::kind_of))]
 fn kind_of(digit: u8) -> Kind
     ensures { result ≡ kind_of digit }
 {
@@ -69,86 +69,60 @@ fn kind_of(digit: u8) -> Kind
     }
 }
 
-/// Writes a join: its kind in words, its eight coordinates, the origins of its left and of its right corners, and its position.
-pub fn say_join(join: Join) {
-    let kind = join.kind;
-    let ending = join.ending;
-    let starting = join.starting;
-    say_kind(kind);
-    say_corners(ending);
-    say_corners(starting);
-    say_origins(join);
-    say_position(join);
-}
+/// A join as text: its kind in words, its eight coordinates, the origins of its left and of its right corners, and its position.
+#[derive(Clone, Copy)]
+pub struct Told(pub Join);
 
-/// Writes the origins of the left and of the right corners of a join.
-pub fn say_origins(join: Join) {
-    let origins = join.origins;
-    let left = origins.left;
-    let right = origins.right;
-    say_origin(left);
-    say_origin(right);
-}
-
-/// Writes the position of a join.
-pub fn say_position(join: Join) {
-    say(b" ");
-    say_count(join.position as u64);
-}
-
-fn say_origin(origin: Origin) {
-    say(b" ");
-    match origin {
-        Origin::Crossing(divisions) => say_divisions(divisions),
-        Origin::NotACrossing => say(b"-"),
+impl fmt::Display for Told {
+    fn fmt<W: fmt::Write>(&self, f: &mut fmt::Formatter<W>) -> fmt::Result {
+        let join = self.0;
+        write_kind(f, join.kind)?;
+        write!(f, " {} {}", join.ending.left, join.ending.right)?;
+        write!(f, " {} {}", join.starting.left, join.starting.right)?;
+        write!(f, "{} {}", Crossings(join.origins), join.position)
     }
 }
 
-/// Writes a letter for each coordinate: E where it is exact, H half way, R where it is rounded.
-pub fn say_divisions(divisions: Divisions) {
-    let x = divisions.x;
-    let y = divisions.y;
-    say_division(x);
-    say_division(y);
+/// The origins of left and right corners as text, a space before each: the letters of a crossing, else a dash.
+#[derive(Clone, Copy)]
+pub struct Crossings(pub Origins);
+
+impl fmt::Display for Crossings {
+    fn fmt<W: fmt::Write>(&self, f: &mut fmt::Formatter<W>) -> fmt::Result {
+        write_origin(f, self.0.left)?;
+        write_origin(f, self.0.right)
+    }
 }
 
-fn say_division(division: Division) {
+/// Divisions as text, a letter for each coordinate: E where it is exact, H half way, R where it is rounded.
+#[derive(Clone, Copy)]
+pub struct Letters(pub Divisions);
+
+impl fmt::Display for Letters {
+    fn fmt<W: fmt::Write>(&self, f: &mut fmt::Formatter<W>) -> fmt::Result {
+        write!(f, "{}{}", letter_of(self.0.x), letter_of(self.0.y))
+    }
+}
+
+fn letter_of(division: Division) -> char {
     match division {
-        Division::Exact => say(b"E"),
-        Division::Half => say(b"H"),
-        Division::Rounded => say(b"R"),
+        Division::Exact => 'E',
+        Division::Half => 'H',
+        Division::Rounded => 'R',
     }
 }
 
-fn say_kind(kind: Kind) {
+fn write_origin<W: fmt::Write>(f: &mut fmt::Formatter<W>, origin: Origin) -> fmt::Result {
+    match origin {
+        Origin::Crossing(divisions) => write!(f, " {}", Letters(divisions)),
+        Origin::NotACrossing => write!(f, " -"),
+    }
+}
+
+fn write_kind<W: fmt::Write>(f: &mut fmt::Formatter<W>, kind: Kind) -> fmt::Result {
     match kind {
-        Kind::Miter => say(b"Miter"),
-        Kind::Bevel(side) => {
-            say(b"Bevel");
-            say_side(side);
-        }
-        Kind::Degenerate(side) => {
-            say(b"Degenerate");
-            say_side(side);
-        }
-        Kind::Colinear => say(b"Colinear"),
-        Kind::Start => say(b"Start"),
-        Kind::End => say(b"End"),
+        Kind::Bevel(side) => write!(f, "Bevel {side:?}"),
+        Kind::Degenerate(side) => write!(f, "Degenerate {side:?}"),
+        kind => write!(f, "{kind:?}"),
     }
-}
-
-fn say_side(side: Side) {
-    match side {
-        Side::Left => say(b" Left"),
-        Side::Right => say(b" Right"),
-    }
-}
-
-fn say_corners(corners: Corners) {
-    let left = corners.left;
-    let right = corners.right;
-    say(b" ");
-    say_point(left);
-    say(b" ");
-    say_point(right);
 }

@@ -79,3 +79,5 @@ turn {s} {first} {n} {v} {at} {b} h is e same =
       room = omega (arith, small s first, rw on at (so_far (n - 1) s w (at + 1)));
       on = on;
     }
+
+pub ruleset reading = (inside, small)

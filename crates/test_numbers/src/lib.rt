@@ -5,15 +5,18 @@ ghost use Rattle.std.specs.Prelude.{◌≡◌, get_or};
 ghost use Rattle.test_numbers.specs.Numbers.{is_digit, digits_at, number_at};
 ghost use Rattle.test_numbers.specs.Lines.{skip_past};
 
+/// A number has at most 18 digits.
+const DIGITS: usize = 18;
+
 /// What was read: the number, and the place after it.
-#[derive(Clone, Copy)]
+#[derive(Clone, Copy, Debug, PartialEq, Eq)]
 pub struct Number {
     pub value: i64,
     pub next: usize,
 }
 
 /// The number that digits say, and the place after them.
-#[derive(Clone, Copy)]
+#[derive(Clone, Copy, Debug, PartialEq, Eq)]
 struct Digits {
     value: u64,
     next: usize,
@@ -22,6 +25,7 @@ struct Digits {
 /// The whole number in decimal that begins at `at`: an optional '-', then at most 18 digits; whatever else comes ends it.
 /// With no digit there the number is 0, and the place is the one after the '-' where there is a '-', else `at`.
 /// Past the end of the text the number is 0, and the place stays `at`.
+#[tactic(auto, using(crate::proofs::Reading::reading), unfolding(crate::specs::Numbers::number_at))]
 pub fn number_at(s: &[u8], at: usize) -> Number
     ensures { result ≡ number_at s.now at }
 {
@@ -44,32 +48,27 @@ pub fn number_at(s: &[u8], at: usize) -> Number
 pub fn skip_past(s: &[u8], at: usize, b: u8) -> usize
     ensures { result ≡ skip_past s.now at b }
 {
-    let mut next = at;
-    while next < s.len() {
-        let x = s[next];
-        next += 1;
-        if x == b {
-            return next;
+    for i in at..s.len() {
+        if s[i] == b {
+            return i + 1;
         }
     }
-    next
+    at.max(s.len())
 }
 
 /// The number that the digits from `at` on say, at most 18 of them; 0 where there is none.
 fn digits_at(s: &[u8], at: usize) -> Digits
     ensures { result ≡ digits_at s.now at }
 {
-    let mut value: u64 = 0;
+    let mut value = 0;
     let mut next = at;
-    let mut left: usize = 18;
-    while 0 < left {
+    for _ in 0..DIGITS {
         let b = byte_at(s, next);
         if !is_digit(b) {
-            return Digits { value, next };
+            break;
         }
-        value = value * 10 + (b - b'0') as u64;
+        value = value * 10 + u64::from(b - b'0');
         next += 1;
-        left -= 1;
     }
     Digits { value, next }
 }
@@ -78,12 +77,13 @@ fn digits_at(s: &[u8], at: usize) -> Digits
 pub fn byte_at(s: &[u8], at: usize) -> u8
     ensures { result ≡ get_or s.now at 0 }
 {
-    if at < s.len() { s[at] } else { 0 }
+    s.get(at).copied().unwrap_or(0)
 }
 
 /// Whether `b` is one of '0' to '9'.
+#[tactic(auto, unfolding(crate::specs::Numbers::is_digit))]
 fn is_digit(b: u8) -> bool
     ensures { result ≡ is_digit b }
 {
-    if b < b'0' { false } else { b <= b'9' }
+    b'0' <= b && b <= b'9'
 }

@@ -5,133 +5,91 @@
 //!   l N                     a listing to N numbers        refusal, count, total, and the N numbers, which were -7
 //!   m ROW COUNT S E S E     a board made by hand, with two runs in front       the board as for s
 //!   s                       the board as it stands        row, count, and start and end of all 32
-use board::{Board, Run};
+use crate::answers::Number;
+use board::inner::empty_board;
+use board::{Board, Listed, Run};
 use shapes::Span;
-use test_numbers::Number;
-use test_text::{say_numbers, size_up_to};
-use writing::{say, say_count, say_next, say_number};
+use std::io::Result;
+use test_numbers::{byte_at, number_at, skip_past};
+use test_text::{Numbers, size_up_to};
 
-fn say_refusal(refusal: u64) {
-    say_count(refusal);
-    say(b"\n");
-}
-
-fn say_board(board: Board) {
-    say_number(board.row);
-    say(b" ");
-    say_count(board.count as u64);
-    let runs = board.runs;
-    let mut i: usize = 0;
-    while i < 32 {
-        let run = runs[i];
-        say_next(run.start);
-        say_next(run.end);
-        i += 1;
+/// Answers each event of a text, from a board with no runs on row 0.
+pub fn replay(rt: &impl Print, events: &[u8]) -> Result<()> {
+    let mut board = empty_board(0);
+    for event in events.split(|byte| *byte == b'\n') {
+        answer(rt, event, &mut board)?;
     }
-    say(b"\n");
+    Ok(())
 }
 
-// The number after the next space, and the place after it.
-fn number_after(s: &[u8], at: usize) -> Number {
-    let from = test_numbers::skip_past(s, at, b' ');
-    test_numbers::number_at(s, from)
+// What an event does to the board, and its answer line.
+fn answer(rt: &impl Print, event: &[u8], board: &mut Board) -> Result<()> {
+    match byte_at(event, 0) {
+        b'r' => begin(rt, event, board),
+        b'o' => offer(rt, event, board),
+        b'c' => println!(rt; "{}", Number(board.clear().err())),
+        b'l' => list(rt, event, board),
+        b'm' => {
+            *board = made(event);
+            say_board(rt, board)
+        }
+        b's' => say_board(rt, board),
+        _ => Ok(()),
+    }
 }
 
-fn begin(s: &[u8], at: usize) -> Board {
-    let row = number_after(s, at);
-    let answer = board::fresh(row.value);
-    say_refusal(answer.refusal);
-    answer.board
+fn begin(rt: &impl Print, event: &[u8], board: &mut Board) -> Result<()> {
+    let [row] = numbers::<1>(event);
+    let fresh = Board::fresh(row);
+    *board = fresh.unwrap_or(empty_board(0));
+    println!(rt; "{}", Number(fresh.err()))
 }
 
-fn offer(s: &[u8], at: usize, board: Board) -> Board {
-    let row = number_after(s, at);
-    let start = number_after(s, row.next);
-    let end = number_after(s, start.next);
-    let span = Span {
-        row: row.value,
-        start: start.value,
-        end: end.value,
-    };
-    let answer = board::offer(board, span);
-    say_refusal(answer.refusal);
-    answer.board
+fn offer(rt: &impl Print, event: &[u8], board: &mut Board) -> Result<()> {
+    let [row, start, end] = numbers::<3>(event);
+    println!(rt; "{}", Number(board.offer(Span { row, start, end }).err()))
 }
 
-fn clear(board: Board) -> Board {
-    let answer = board::clear(board);
-    say_refusal(answer.refusal);
-    answer.board
-}
-
-fn list_to(board: Board, out: &mut [i64]) {
-    let listed = board::list(board, &mut *out);
-    say_count(listed.refusal);
-    say(b" ");
-    say_count(listed.count as u64);
-    say_next(listed.total);
-    say_numbers(out);
-    say(b"\n");
-}
-
-fn list(s: &[u8], at: usize, board: Board) {
-    let n = size_up_to(80, number_after(s, at).value);
+fn list(rt: &impl Print, event: &[u8], board: &Board) -> Result<()> {
+    let [n] = numbers::<1>(event);
     let mut out = [-7i64; 80];
-    list_to(board, &mut out[..n]);
+    list_to(rt, board, &mut out[..size_up_to(80, n)])
 }
 
-fn make(s: &[u8], at: usize) -> Board {
-    let row = number_after(s, at);
-    let count = number_after(s, row.next);
-    let a = number_after(s, count.next);
-    let b = number_after(s, a.next);
-    let c = number_after(s, b.next);
-    let d = number_after(s, c.next);
+fn list_to(rt: &impl Print, board: &Board, out: &mut [i64]) -> Result<()> {
+    let answer = board.list(out);
+    let Listed { count, total } = answer.unwrap_or(Listed { count: 0, total: 0 });
+    println!(rt; "{} {count} {total}{}", Number(answer.err()), Numbers(out))
+}
+
+fn made(event: &[u8]) -> Board {
+    let [row, count, a, b, c, d] = numbers::<6>(event);
     let mut runs = [Run { start: 5, end: 5 }; 32];
-    runs[0] = Run {
-        start: a.value,
-        end: b.value,
-    };
-    runs[1] = Run {
-        start: c.value,
-        end: d.value,
-    };
+    runs[0] = Run { start: a, end: b };
+    runs[1] = Run { start: c, end: d };
     Board {
-        row: row.value,
-        count: size_up_to(80, count.value),
+        row,
+        count: size_up_to(80, count),
         runs,
     }
 }
 
-// The event at a place, its answer line, and the board after it.
-fn event(s: &[u8], at: usize, board: Board) -> Board {
-    let kind = test_numbers::byte_at(s, at);
-    match kind {
-        b'r' => begin(s, at),
-        b'o' => offer(s, at, board),
-        b'c' => clear(board),
-        b'l' => {
-            list(s, at, board);
-            board
-        }
-        b'm' => {
-            let made = make(s, at);
-            say_board(made);
-            made
-        }
-        b's' => {
-            say_board(board);
-            board
-        }
-        _ => board,
+// The numbers behind an event's letter; 0 for each that is not there.
+fn numbers<const N: usize>(event: &[u8]) -> [i64; N] {
+    let mut numbers = [0; N];
+    let mut at = 0;
+    for number in &mut numbers {
+        let read = number_at(event, skip_past(event, at, b' '));
+        *number = read.value;
+        at = read.next;
     }
+    numbers
 }
 
-pub fn replay(s: &[u8]) {
-    let mut board = board::inner::empty_board(0);
-    let mut at: usize = 0;
-    while at < s.len() {
-        board = event(s, at, board);
-        at = test_numbers::skip_past(s, at, b'\n');
+fn say_board(rt: &impl Print, board: &Board) -> Result<()> {
+    print!(rt; "{} {}", board.row, board.count)?;
+    for run in &board.runs {
+        print!(rt; " {} {}", run.start, run.end)?;
     }
+    println!(rt)
 }

@@ -1,113 +1,104 @@
 //! Questions on joins.
+use crate::answers::{Answer, Bend};
 use line_join::{
-    Caps, Filler, Join, Joined, end, end_cap_lines, filler_line, from_points, is_degenerate, start,
-    start_cap_lines,
+    Caps, Join, end, end_cap_lines, filler_line, from_points, is_degenerate, start, start_cap_lines,
 };
-use test_joins::{join_at, say_join};
-use test_text::{after, line_at, offset_at, point_at, say_bool, say_line};
-use writing::{say, say_count, say_refused_at};
+use shapes::Line;
+use shapes::refusals::Refusal;
+use std::{fmt, io};
+use test_joins::{Told, join_at};
+use test_text::{after, line_at, offset_at, point_at};
 
-pub fn answer(kind: u8, questions: &[u8], at: usize) {
+pub fn answer(rt: &impl Print, kind: u8, questions: &[u8], at: usize) -> io::Result<()> {
     match kind {
-        b'a' | b'z' => answer_end(kind, questions, at),
-        b'j' => answer_points(questions, at),
-        b'f' => answer_lines(questions, at),
-        b'g' => answer_each(questions, at),
-        _ => {}
+        b'a' | b'z' => answer_end(rt, kind, questions, at),
+        b'j' => answer_points(rt, questions, at),
+        b'f' => say_lines(rt, join_at(questions, at).join),
+        b'g' => say_each(rt, join_at(questions, at).join),
+        _ => Ok(()),
     }
 }
 
 /// The join at the start or at the end of a line.
-fn answer_end(kind: u8, questions: &[u8], at: usize) {
+fn answer_end(rt: &impl Print, kind: u8, questions: &[u8], at: usize) -> io::Result<()> {
     let asked = line_at(questions, at);
     let line = asked.line;
     let width = test_numbers::number_at(questions, asked.next);
     let offset = offset_at(questions, after(width.next));
     if kind == b'a' {
-        say_joined(start(line.start, line.end, width.value, offset));
+        say_joined(rt, start(line.start, line.end, width.value, offset))
     } else {
-        say_joined(end(line.start, line.end, width.value, offset));
+        say_joined(rt, end(line.start, line.end, width.value, offset))
     }
 }
 
-fn answer_points(questions: &[u8], at: usize) {
+fn answer_points(rt: &impl Print, questions: &[u8], at: usize) -> io::Result<()> {
     let asked = line_at(questions, at);
     let line = asked.line;
     let last = point_at(questions, asked.next);
-    let point = last.point;
     let width = test_numbers::number_at(questions, last.next);
     let offset = offset_at(questions, after(width.next));
-    say_joined(from_points(line.start, line.end, point, width.value, offset));
+    say_joined(
+        rt,
+        from_points(line.start, line.end, last.point, width.value, offset),
+    )
 }
 
-fn answer_lines(questions: &[u8], at: usize) {
-    let asked = join_at(questions, at);
-    let join = asked.join;
-    say_lines(join);
-}
-
-/// The three lines of a join, each entry by itself, and all fields of what `is_degenerate` answers.
-fn answer_each(questions: &[u8], at: usize) {
-    let asked = join_at(questions, at);
-    let join = asked.join;
-    say_filled(join);
-    say(b" | ");
-    let tested = is_degenerate(join);
-    say_count(tested.refusal);
-    say(b" ");
-    say_count(tested.bend as u64);
-    say(b" ");
-    say_bool(tested.degenerate);
-}
-
-fn say_joined(joined: Joined) {
-    match joined {
-        Joined::Made(join) => say_join(join),
-        Joined::Refused(number, bend) => say_refused_at(number, bend),
-    }
+fn say_joined(rt: &impl Print, answer: Result<Join, Refusal>) -> io::Result<()> {
+    print!(rt; "{}", Answer(answer.map(Told)))
 }
 
 /// The filler line, the lines of both caps, and whether the join is degenerate.
-fn say_lines(join: Join) {
-    let tested = is_degenerate(join);
-    if tested.refusal != 0 {
-        say_refused_at(tested.refusal, tested.bend);
-        return;
-    }
-    say_filled(join);
-    say(b" | ");
-    say_bool(tested.degenerate);
-}
-
-/// The filler line, and the lines of both caps.
-fn say_filled(join: Join) {
-    say_filler(filler_line(join));
-    say(b" | ");
-    say_caps(start_cap_lines(join));
-    say(b" | ");
-    say_caps(end_cap_lines(join));
-}
-
-fn say_filler(filler: Filler) {
-    match filler {
-        Filler::Filled(line) => say_line(line),
-        Filler::Nothing => say(b"none"),
-        Filler::Refused(number, bend) => say_refused_at(number, bend),
+fn say_lines(rt: &impl Print, join: Join) -> io::Result<()> {
+    match is_degenerate(join) {
+        Ok(degenerate) => print!(rt; "{} | {degenerate}", Filled(join)),
+        Err(refusal) => print!(rt; "{refusal}"),
     }
 }
 
-fn say_caps(caps: Caps) {
-    match caps {
-        Caps::One(line) => {
-            say(b"1 ");
-            say_line(line);
+/// The three lines of a join, each entry by itself, and all that `is_degenerate` answers: the refusal and the position, 0 where
+/// there is none, and whether it is degenerate, false where it is refused.
+fn say_each(rt: &impl Print, join: Join) -> io::Result<()> {
+    let answer = is_degenerate(join);
+    let degenerate = answer.unwrap_or(false);
+    print!(rt; "{} | {} {degenerate}", Filled(join), Bend(answer.err()))
+}
+
+/// The filler line of a join, and the lines of both caps.
+#[derive(Clone, Copy)]
+struct Filled(Join);
+
+impl fmt::Display for Filled {
+    fn fmt<W: fmt::Write>(&self, f: &mut fmt::Formatter<W>) -> fmt::Result {
+        let filler = Answer(filler_line(self.0).map(Filler));
+        let first = Answer(start_cap_lines(self.0).map(CapLines));
+        let last = Answer(end_cap_lines(self.0).map(CapLines));
+        write!(f, "{filler} | {first} | {last}")
+    }
+}
+
+/// A filler line, if there is one.
+#[derive(Clone, Copy)]
+struct Filler(Option<Line>);
+
+impl fmt::Display for Filler {
+    fn fmt<W: fmt::Write>(&self, f: &mut fmt::Formatter<W>) -> fmt::Result {
+        match self.0 {
+            Some(line) => write!(f, "{line}"),
+            None => write!(f, "none"),
         }
-        Caps::Two(first, second) => {
-            say(b"2 ");
-            say_line(first);
-            say(b" ");
-            say_line(second);
+    }
+}
+
+/// How many lines a cap has, and these lines.
+#[derive(Clone, Copy)]
+struct CapLines(Caps);
+
+impl fmt::Display for CapLines {
+    fn fmt<W: fmt::Write>(&self, f: &mut fmt::Formatter<W>) -> fmt::Result {
+        match self.0 {
+            Caps::One(line) => write!(f, "1 {line}"),
+            Caps::Two(first, second) => write!(f, "2 {first} {second}"),
         }
-        Caps::Refused(number, bend) => say_refused_at(number, bend),
     }
 }

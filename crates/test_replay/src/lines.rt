@@ -1,77 +1,48 @@
 //! Questions on lines.
+use crate::answers::Answer;
 use intersection_params::{Crossed, crossing, nearly_colinear};
-use linear_equation::{Tested, check_side, distance, equation};
+use linear_equation::{check_side, distance, equation};
 use shapes::{Line, Point, Side};
-use test_joins::say_divisions;
-use test_text::{line_at, say_bool, say_point};
-use writing::{say, say_next, say_number, say_refused};
+use std::io::Result;
+use test_joins::Letters;
+use test_text::line_at;
 
 /// The points a to d, of which the last may be missing.
-pub fn answer(kind: u8, questions: &[u8], at: usize) {
+pub fn answer(rt: &impl Print, kind: u8, questions: &[u8], at: usize) -> Result<()> {
     let first = line_at(questions, at);
-    let second = line_at(questions, first.next);
-    let line = second.line;
-    let point = line.start;
+    let second = line_at(questions, first.next).line;
+    let line = first.line;
+    let point = second.start;
     match kind {
-        b'e' => say_equation(first.line),
-        b'd' => say_distance(first.line, point),
-        b's' => say_sides(first.line, point),
-        b'c' => say_crossing(first.line, second.line),
-        b'n' => say_tested(nearly_colinear(first.line, second.line)),
-        _ => {}
+        b'e' => say_equation(rt, line),
+        b'd' => print!(rt; "{}", Answer(distance(line, point))),
+        b's' => say_sides(rt, line, point),
+        b'c' => say_crossing(rt, line, second),
+        b'n' => print!(rt; "{}", Answer(nearly_colinear(line, second))),
+        _ => Ok(()),
     }
 }
 
-fn say_equation(line: Line) {
-    let r = equation(line);
-    if r.refusal != 0 {
-        say_refused(r.refusal);
-        return;
+fn say_equation(rt: &impl Print, line: Line) -> Result<()> {
+    match equation(line) {
+        Ok(found) => print!(rt; "{} {}", found.normal, found.distance),
+        Err(refusal) => print!(rt; "{refusal}"),
     }
-    let e = r.equation;
-    let normal = e.normal;
-    say_point(normal);
-    say_next(e.distance);
 }
 
-fn say_distance(line: Line, point: Point) {
-    let r = distance(line, point);
-    if r.refusal != 0 {
-        say_refused(r.refusal);
-        return;
+fn say_sides(rt: &impl Print, line: Line, point: Point) -> Result<()> {
+    match check_side(line, point, Side::Left) {
+        Ok(left) => print!(rt; "{left} {}", Answer(check_side(line, point, Side::Right))),
+        Err(refusal) => print!(rt; "{refusal}"),
     }
-    say_number(r.distance);
 }
 
-fn say_sides(line: Line, point: Point) {
-    let left = check_side(line, point, Side::Left);
-    say_tested(left);
-    if left.refusal != 0 {
-        return;
-    }
-    say(b" ");
-    say_tested(check_side(line, point, Side::Right));
-}
-
-fn say_crossing(first: Line, second: Line) {
+fn say_crossing(rt: &impl Print, first: Line, second: Line) -> Result<()> {
     match crossing(first, second) {
-        Crossed::At(point, side, divisions) => {
-            say_point(point);
-            match side {
-                Side::Left => say(b" Left "),
-                Side::Right => say(b" Right "),
-            }
-            say_divisions(divisions);
+        Ok(Crossed::At(point, side, divisions)) => {
+            print!(rt; "{point} {side:?} {}", Letters(divisions))
         }
-        Crossed::Colinear => say(b"Colinear"),
-        Crossed::Refused(n) => say_refused(n),
-    }
-}
-
-fn say_tested(r: Tested) {
-    if r.refusal != 0 {
-        say_refused(r.refusal);
-    } else {
-        say_bool(r.holds);
+        Ok(Crossed::Colinear) => print!(rt; "Colinear"),
+        Err(refusal) => print!(rt; "{refusal}"),
     }
 }

@@ -2,8 +2,9 @@
 //! this repository's code (oracle/README.md).
 #![tactic(auto)]
 
-ghost use Rattle.std.specs.Prelude.{◌≡◌, ◌≤◌, length, IfOk};
+ghost use Rattle.std.specs.Prelude.{◌≤◌, length, IfOk};
 
+mod answers; // answers.rt: answers as text
 mod boards; // boards.rt: histories of boards
 mod files; // files.rt: route files
 mod joins; // joins.rt: joins, and the lines of a join handed in
@@ -15,39 +16,34 @@ mod walks; // walks.rt: walks along a route, and its merged spans
 
 use std::fs::File;
 use std::io::{Read, Result};
-use test_numbers::{byte_at, skip_past};
-use test_text::after;
-use writing::say;
+use test_numbers::byte_at;
+use test_text::room;
 
 fn main(rt: HostRuntime) -> Result<()> {
-    answer_list(&rt, "crossings")?;
-    answer_list(&rt, "strokes")?;
-    answer_list(&rt, "joins")?;
-    answer_list(&rt, "segments")?;
-    answer_list(&rt, "walks")?;
-    answer_list(&rt, "fields")?;
-    replay_boards(&rt, "boards")
+    for name in [
+        "crossings",
+        "strokes",
+        "joins",
+        "segments",
+        "walks",
+        "fields",
+    ] {
+        answer_list(&rt, name, |questions| answer_all(&rt, questions))?;
+    }
+    answer_list(&rt, "boards", |events| boards::replay(&rt, events))
 }
 
-/// Room for a list of questions. The contract gives the length alone, which lending it needs.
-fn room() -> [u8; 524288]
-    ensures { 524288 ≡ length result }
+/// Answers the list of a file, of which the first 524,288 bytes are kept.
+fn answer_list<A: FnOnce(&[u8]) -> Result<()>>(
+    rt: &HostRuntime,
+    name: &str,
+    answer: A,
+) -> Result<()>
+    requires { A.IsAlwaysCallable answer }
 {
-    [0; 524288]
-}
-
-fn answer_list(rt: &HostRuntime, name: &str) -> Result<()> {
-    let mut questions = room();
-    let n = read_file(rt, name, &mut questions)?;
-    answer_all(&questions[..n]);
-    Ok(())
-}
-
-fn replay_boards(rt: &HostRuntime, name: &str) -> Result<()> {
-    let mut events = [0u8; 65536];
-    let n = read_file(rt, name, &mut events)?;
-    boards::replay(&events[..n]);
-    Ok(())
+    let mut list = room::<524288>();
+    let n = read_file(rt, name, &mut list)?;
+    answer(&list[..n])
 }
 
 /// Reads a file to the front of `bytes`, until they are full or the file ends, and answers how many it put there.
@@ -66,43 +62,27 @@ fn read_file(rt: &HostRuntime, name: &str, bytes: &mut [u8]) -> Result<usize>
     Ok(done)
 }
 
-fn answer_all(questions: &[u8]) {
-    let mut at = 0;
-    while at < questions.len() {
-        answer(questions, at);
-        at = skip_past(questions, at, b'\n');
+fn answer_all(rt: &impl Print, questions: &[u8]) -> Result<()> {
+    for question in questions.split_inclusive(|byte| *byte == b'\n') {
+        answer(rt, question)?;
     }
+    Ok(())
 }
 
 /// A letter that names the kind, and its numbers.
-fn answer(questions: &[u8], at: usize) {
-    let kind = byte_at(questions, at);
-    answer_kind(kind, questions, after(after(at)));
-    say(b"\n");
+fn answer(rt: &impl Print, question: &[u8]) -> Result<()> {
+    answer_kind(rt, byte_at(question, 0), question, 2)?;
+    println!(rt)
 }
 
-fn answer_kind(kind: u8, questions: &[u8], at: usize) {
-    if is_among(kind, b"edscn ") {
-        return lines::answer(kind, questions, at);
+fn answer_kind(rt: &impl Print, kind: u8, question: &[u8], at: usize) -> Result<()> {
+    match kind {
+        b'e' | b'd' | b's' | b'c' | b'n' => lines::answer(rt, kind, question, at),
+        b'x' | b'p' | b't' => strokes::answer(rt, kind, question, at),
+        b'a' | b'z' | b'j' | b'f' | b'g' => joins::answer(rt, kind, question, at),
+        b'k' | b'q' | b'r' | b'm' | b'u' | b'y' | b'b' => segments::answer(rt, kind, question, at),
+        b'O' | b'C' | b'N' | b'M' | b'o' | b'v' | b'w' => walks::answer(rt, kind, question, at),
+        b'h' => files::answer(rt, question, at),
+        _ => Ok(()),
     }
-    if is_among(kind, b"xpt ") {
-        return strokes::answer(kind, questions, at);
-    }
-    if is_among(kind, b"azjfg ") {
-        return joins::answer(kind, questions, at);
-    }
-    if is_among(kind, b"kqrmuyb ") {
-        return segments::answer(kind, questions, at);
-    }
-    if is_among(kind, b"OCNMovw ") {
-        return walks::answer(kind, questions, at);
-    }
-    if kind == b'h' {
-        files::answer(questions, at);
-    }
-}
-
-/// Whether a letter is one of those that a space ends.
-fn is_among(letter: u8, letters: &[u8]) -> bool {
-    skip_past(letters, 0, letter) < letters.len()
 }

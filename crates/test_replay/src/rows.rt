@@ -1,47 +1,36 @@
 //! Questions on the rows of a route.
-use crate::segments::say_bend;
-use route::{RowRange, Verdict, refusal, row, rows};
-use test_text::{say_bool, say_numbers};
-use writing::{say, say_count, say_next};
+use crate::answers::Bend;
+use route::{Listed, Rows, check, row, rows};
+use std::io::Result;
+use test_text::Numbers;
 
-/// All fields of what `rows`, `row` and `refusal` answer of the route, open and closed.
-pub fn say_rows(coordinates: &[i64], width: i64, at: i64) {
-    say_range(rows(coordinates, width, false));
-    say(b" | ");
-    say_range(rows(coordinates, width, true));
-    say(b" | ");
-    say_row(coordinates, width, false, at);
-    say(b" | ");
-    say_row(coordinates, width, true, at);
-    say(b" | ");
-    say_verdict(refusal(coordinates, width, false));
-    say(b" | ");
-    say_verdict(refusal(coordinates, width, true));
+/// All that `rows`, `row` and `check` answer of the route, open and closed.
+pub fn say_rows(rt: &impl Print, coordinates: &[i64], width: i64, at: i64) -> Result<()> {
+    for closed in [false, true] {
+        say_range(rt, coordinates, width, closed)?;
+    }
+    for closed in [false, true] {
+        say_row(rt, coordinates, width, closed, at)?;
+    }
+    let open = Bend(check(coordinates, width, false).err());
+    let closed = Bend(check(coordinates, width, true).err());
+    print!(rt; "{open} | {closed}")
 }
 
-fn say_verdict(verdict: Verdict) {
-    say_bend(verdict.refusal, verdict.bend);
-}
-
-fn say_range(range: RowRange) {
-    say_bend(range.refusal, range.bend);
-    say(b" ");
-    say_bool(range.some);
-    say_next(range.first);
-    say_next(range.last);
+fn say_range(rt: &impl Print, coordinates: &[i64], width: i64, closed: bool) -> Result<()> {
+    let answer = rows(coordinates, width, closed);
+    let range = answer.unwrap_or(None);
+    let Rows { first, last } = range.unwrap_or(Rows { first: 0, last: 0 });
+    let refusal = Bend(answer.err());
+    let found = range.is_some();
+    print!(rt; "{refusal} {found} {first} {last} | ")
 }
 
 /// The runs go to a list of six numbers, which were -7.
-fn say_row(coordinates: &[i64], width: i64, closed: bool, at: i64) {
+fn say_row(rt: &impl Print, coordinates: &[i64], width: i64, closed: bool, at: i64) -> Result<()> {
     let mut out = [-7i64; 6];
-    say_row_by(coordinates, width, closed, at, &mut out);
-}
-
-fn say_row_by(coordinates: &[i64], width: i64, closed: bool, at: i64, out: &mut [i64]) {
-    let listed = row(coordinates, width, closed, at, &mut *out);
-    say_bend(listed.refusal, listed.bend);
-    say(b" ");
-    say_count(listed.count as u64);
-    say_next(listed.total);
-    say_numbers(out);
+    let answer = row(coordinates, width, closed, at, &mut out);
+    let Listed { count, total } = answer.unwrap_or(Listed { count: 0, total: 0 });
+    let refusal = Bend(answer.err());
+    print!(rt; "{refusal} {count} {total}{} | ", Numbers(&out))
 }

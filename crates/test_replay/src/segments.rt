@@ -1,113 +1,88 @@
 //! Questions on segments between two joins, and on spans of a row.
-use scanline::{Extended, meet, try_extend, try_take};
+use crate::answers::{Answer, Bend, Columns, Found, Number};
+use scanline::{meet, try_extend, try_take};
 use shapes::Span;
-use shapes::limits::CORNER;
+use shapes::refusals::Refusal;
+use std::{fmt, io};
 use test_joins::join_at;
-use test_text::{after, line_at, say_bool, say_fields, say_line, say_numbers, say_point};
+use test_text::{Numbers, after, line_at};
 use thick_segment::{
-    Boxed, DrawnRows, Edged, Segment, drawn_rows, edges, edges_bounding_box, is_skeleton,
-    perimeter, perimeter_count, span,
+    EdgePair, Rectangle, Segment, drawn_rows, edges, edges_bounding_box, is_skeleton, perimeter,
+    perimeter_count, span,
 };
-use whole::inner::within;
-use writing::{say, say_count, say_next, say_number, say_refused, say_refused_at};
 
 /// A segment that was read, and the place of the number after it.
-#[derive(Clone, Copy)]
+#[derive(Clone, Copy, Debug, PartialEq, Eq)]
 struct SegmentAt {
     segment: Segment,
     next: usize,
 }
 
 /// A span that was read, and the place of the number after it.
-#[derive(Clone, Copy)]
+#[derive(Clone, Copy, Debug, PartialEq, Eq)]
 struct SpanAt {
     span: Span,
     next: usize,
 }
 
-pub fn answer(kind: u8, questions: &[u8], at: usize) {
+pub fn answer(rt: &impl Print, kind: u8, questions: &[u8], at: usize) -> io::Result<()> {
     match kind {
-        b'k' => answer_segment(questions, at),
-        b'q' => answer_rows(questions, at),
-        b'r' => answer_row(questions, at),
-        b'm' => answer_meet(questions, at),
-        b'u' => answer_extend(questions, at),
-        b'y' => answer_take(questions, at),
-        b'b' => answer_bends(questions, at),
-        _ => {}
+        b'k' | b'q' | b'r' | b'b' => answer_segment(rt, kind, questions, at),
+        b'm' => answer_meet(rt, questions, at),
+        b'u' => answer_extend(rt, questions, at),
+        b'y' => answer_take(rt, questions, at),
+        _ => Ok(()),
     }
 }
 
-fn answer_segment(questions: &[u8], at: usize) {
+/// A segment, and a row, which may be missing.
+fn answer_segment(rt: &impl Print, kind: u8, questions: &[u8], at: usize) -> io::Result<()> {
     let asked = segment_at(questions, at);
     let segment = asked.segment;
-    say_segment(segment);
-}
-
-fn answer_rows(questions: &[u8], at: usize) {
-    let asked = segment_at(questions, at);
-    let segment = asked.segment;
-    say_drawn_rows(drawn_rows(segment));
-}
-
-fn answer_row(questions: &[u8], at: usize) {
-    let asked = segment_at(questions, at);
-    let segment = asked.segment;
-    let row = test_numbers::number_at(questions, asked.next);
-    let met = span(segment, row.value);
-    if met.refusal != 0 {
-        say_refused_at(met.refusal, met.bend);
-        return;
+    let row = test_numbers::number_at(questions, asked.next).value;
+    match kind {
+        b'k' => say_segment(rt, segment),
+        b'q' => say_drawn_rows(rt, segment),
+        b'r' => say_span(rt, span(segment, row)),
+        b'b' => say_bends(rt, segment, row),
+        _ => Ok(()),
     }
-    say_span(0, met.span);
 }
 
-/// What each entry refuses a segment and a row with, and the bend that it names.
-fn answer_bends(questions: &[u8], at: usize) {
-    let asked = segment_at(questions, at);
-    let segment = asked.segment;
-    let row = test_numbers::number_at(questions, asked.next);
-    say_bends(segment, row.value);
-}
-
-fn answer_meet(questions: &[u8], at: usize) {
+fn answer_meet(rt: &impl Print, questions: &[u8], at: usize) -> io::Result<()> {
     let asked = line_at(questions, at);
-    let line = asked.line;
-    let known = span_at(questions, asked.next);
-    let before = known.span;
-    let met = meet(before, line);
-    say_span(met.refusal, met.span);
+    let mut span = span_at(questions, asked.next).span;
+    say_span(rt, meet(&mut span, asked.line).map(|()| span))
 }
 
-fn answer_extend(questions: &[u8], at: usize) {
+fn answer_extend(rt: &impl Print, questions: &[u8], at: usize) -> io::Result<()> {
     let first = span_at(questions, at);
     let second = span_at(questions, first.next);
-    let current = first.span;
-    let other = second.span;
-    say_extended(try_extend(current, other));
+    let mut span = first.span;
+    match try_extend(&mut span, second.span) {
+        Ok(joined) => print!(rt; "{joined} {}", Columns(span)),
+        Err(refusal) => print!(rt; "{refusal}"),
+    }
 }
 
-/// All fields of what `try_take` answers.
-fn answer_take(questions: &[u8], at: usize) {
-    let asked = span_at(questions, at);
-    let held = asked.span;
-    let tried = try_take(held);
-    say_count(tried.refusal);
-    say(b" ");
-    say_bool(tried.taken);
-    say_fields(tried.span);
-    say(b" |");
-    say_fields(tried.rest);
+/// Whether a span is handed out, that span, and what is left, behind the refusal, 0 where there is none.
+fn answer_take(rt: &impl Print, questions: &[u8], at: usize) -> io::Result<()> {
+    let mut span = span_at(questions, at).span;
+    let taken = try_take(&mut span);
+    let refusal = Number(taken.err());
+    let handed = Found(taken.unwrap_or(None));
+    print!(rt; "{refusal} {handed} | {span}")
 }
 
 /// Two joins.
 fn segment_at(questions: &[u8], at: usize) -> SegmentAt {
     let first = join_at(questions, at);
     let last = join_at(questions, first.next);
-    let start = first.join;
-    let end = last.join;
     SegmentAt {
-        segment: Segment { start, end },
+        segment: Segment {
+            start: first.join,
+            end: last.join,
+        },
         next: last.next,
     }
 }
@@ -128,138 +103,76 @@ fn span_at(questions: &[u8], at: usize) -> SpanAt {
 }
 
 /// Whether the segment is a skeleton, its edges, their bounding box, and the lines that are drawn.
-fn say_segment(segment: Segment) {
-    let tested = is_skeleton(segment);
-    if tested.refusal != 0 {
-        say_refused_at(tested.refusal, tested.bend);
-        return;
-    }
-    say_bool(tested.skeleton);
-    say(b" | ");
-    say_edges(edges(segment));
-    say(b" | ");
-    say_box(edges_bounding_box(segment));
-    say(b" | ");
-    say_perimeter(segment);
-}
-
-fn say_bends(segment: Segment, row: i64) {
-    let tested = is_skeleton(segment);
-    say_bend(tested.refusal, tested.bend);
-    say(b" | ");
-    let edged = edges(segment);
-    say_bend(edged.refusal, edged.bend);
-    say(b" | ");
-    let boxed = edges_bounding_box(segment);
-    say_bend(boxed.refusal, boxed.bend);
-    say(b" | ");
-    let counted = perimeter_count(segment);
-    say_bend(counted.refusal, counted.bend);
-    say(b" | ");
-    let drawn = drawn_rows(segment);
-    say_bend(drawn.refusal, drawn.bend);
-    say(b" | ");
-    let met = span(segment, row);
-    say_bend(met.refusal, met.bend);
-}
-
-/// A refusal, 0 where there is none, and the bend.
-pub fn say_bend(refusal: u64, bend: usize) {
-    say_count(refusal);
-    say(b" ");
-    say_count(bend as u64);
-}
-
-fn say_edges(edged: Edged) {
-    if edged.refusal != 0 {
-        say_refused_at(edged.refusal, edged.bend);
-        return;
-    }
-    let pair = edged.edges;
-    let right = pair.right;
-    let left = pair.left;
-    say_line(right);
-    say(b" ");
-    say_line(left);
-}
-
-/// The top left corner, and the width and the height in pixels.
-fn say_box(boxed: Boxed) {
-    if boxed.refusal != 0 {
-        say_refused_at(boxed.refusal, boxed.bend);
-        return;
-    }
-    let rectangle = boxed.rectangle;
-    let first = rectangle.first;
-    let last = rectangle.last;
-    say_point(first);
-    say_next(pixels(first.x, last.x));
-    say_next(pixels(first.y, last.y));
-}
-
-/// The first and the last row of the lines that are drawn.
-fn say_drawn_rows(drawn: DrawnRows) {
-    if drawn.refusal != 0 {
-        say_refused_at(drawn.refusal, drawn.bend);
-        return;
-    }
-    let rows = drawn.rows;
-    say_number(rows.first);
-    say_next(rows.last);
-}
-
-/// How many columns or rows there are from one to another, both included and both within 4,095; else 0.
-fn pixels(first: i64, last: i64) -> i64 {
-    if within(first, CORNER) {
-        if within(last, CORNER) {
-            return last - first + 1;
+fn say_segment(rt: &impl Print, segment: Segment) -> io::Result<()> {
+    match is_skeleton(segment) {
+        Ok(skeleton) => {
+            let edges = Answer(edges(segment).map(Edges));
+            let pixels = Answer(edges_bounding_box(segment).map(Pixels));
+            print!(rt; "{skeleton} | {edges} | {pixels} | ")?;
+            say_perimeter(rt, segment)
         }
+        Err(refusal) => print!(rt; "{refusal}"),
     }
-    0
 }
 
 /// How many lines are drawn, and those lines.
-fn say_perimeter(segment: Segment) {
-    let counted = perimeter_count(segment);
-    if counted.refusal != 0 {
-        say_refused_at(counted.refusal, counted.bend);
-        return;
+fn say_perimeter(rt: &impl Print, segment: Segment) -> io::Result<()> {
+    let answer = perimeter_count(segment);
+    print!(rt; "{}", Answer(answer))?;
+    for row in perimeter(segment).iter().take(answer.unwrap_or(0)) {
+        print!(rt; "{}", Numbers(row))?;
     }
-    say_count(counted.count as u64);
-    say_rows(perimeter(segment), counted.count);
+    Ok(())
 }
 
-/// The first n of six lines.
-fn say_rows(lines: [[i64; 4]; 6], n: usize) {
-    say_row(0 < n, lines[0]);
-    say_row(1 < n, lines[1]);
-    say_row(2 < n, lines[2]);
-    say_row(3 < n, lines[3]);
-    say_row(4 < n, lines[4]);
-    say_row(5 < n, lines[5]);
-}
-
-/// Four coordinates, where they are to be told.
-fn say_row(told: bool, row: [i64; 4]) {
-    if told {
-        say_numbers(&row);
+/// The first and the last row of the lines that are drawn.
+fn say_drawn_rows(rt: &impl Print, segment: Segment) -> io::Result<()> {
+    match drawn_rows(segment) {
+        Ok(rows) => print!(rt; "{} {}", rows.first, rows.last),
+        Err(refusal) => print!(rt; "{refusal}"),
     }
-}
-
-fn say_extended(extended: Extended) {
-    if extended.refusal == 0 {
-        say_bool(extended.joined);
-        say(b" ");
-    }
-    say_span(extended.refusal, extended.span);
 }
 
 /// A span's columns, or the refusal in their place.
-fn say_span(refusal: u64, span: Span) {
-    if refusal != 0 {
-        say_refused(refusal);
-        return;
+fn say_span(rt: &impl Print, answer: Result<Span, Refusal>) -> io::Result<()> {
+    print!(rt; "{}", Answer(answer.map(Columns)))
+}
+
+/// What each entry refuses a segment and a row with, and the bend that it names.
+fn say_bends(rt: &impl Print, segment: Segment, row: i64) -> io::Result<()> {
+    let skeleton = Bend(is_skeleton(segment).err());
+    let edges = Bend(edges(segment).err());
+    let pixels = Bend(edges_bounding_box(segment).err());
+    let count = Bend(perimeter_count(segment).err());
+    let rows = Bend(drawn_rows(segment).err());
+    let span = Bend(span(segment, row).err());
+    print!(rt; "{skeleton} | {edges} | {pixels} | {count} | {rows} | {span}")
+}
+
+/// The right edge and the left one.
+#[derive(Clone, Copy)]
+struct Edges(EdgePair);
+
+impl fmt::Display for Edges {
+    fn fmt<W: fmt::Write>(&self, f: &mut fmt::Formatter<W>) -> fmt::Result {
+        write!(f, "{} {}", self.0.right, self.0.left)
     }
-    say_number(span.start);
-    say_next(span.end);
+}
+
+/// The top left corner of a rectangle, and its width and height in pixels.
+#[derive(Clone, Copy)]
+struct Pixels(Rectangle);
+
+impl fmt::Display for Pixels {
+    fn fmt<W: fmt::Write>(&self, f: &mut fmt::Formatter<W>) -> fmt::Result {
+        let Rectangle { first, last } = self.0;
+        let width = pixels_to(first.x, last.x);
+        let height = pixels_to(first.y, last.y);
+        write!(f, "{first} {width} {height}")
+    }
+}
+
+/// How many columns or rows there are from one to another, both included.
+fn pixels_to(first: i64, last: i64) -> i64 {
+    last.saturating_sub(first).saturating_add(1)
 }

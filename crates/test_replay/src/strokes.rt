@@ -1,72 +1,56 @@
 //! Questions on thick lines.
 use extents::extents;
+use shapes::refusals::Refusal;
 use shapes::{Line, Offset};
-use test_text::{after, line_at, offset_at, say_line, say_numbers};
+use std::io;
+use test_text::{Numbers, after, line_at, offset_at};
 use thick_points::{list_parallels, list_thick_points};
-use writing::{say, say_count, say_refused};
 
 /// A line, a width, and an offset, which may be missing.
-pub fn answer(kind: u8, questions: &[u8], at: usize) {
+pub fn answer(rt: &impl Print, kind: u8, questions: &[u8], at: usize) -> io::Result<()> {
     let asked = line_at(questions, at);
     let line = asked.line;
     let width = test_numbers::number_at(questions, asked.next);
     let offset = offset_at(questions, after(width.next));
     match kind {
-        b'x' => say_extents(line, width.value, offset),
-        b'p' => say_parallels(line, width.value, offset),
-        b't' => say_points(line, width.value),
-        _ => {}
+        b'x' => say_extents(rt, line, width.value, offset),
+        b'p' => say_parallels(rt, line, width.value, offset),
+        b't' => say_points(rt, line, width.value),
+        _ => Ok(()),
     }
 }
 
-fn say_extents(line: Line, width: i64, offset: Offset) {
-    let r = extents(line, width, offset);
-    if r.refusal != 0 {
-        say_refused(r.refusal);
-        return;
+fn say_extents(rt: &impl Print, line: Line, width: i64, offset: Offset) -> io::Result<()> {
+    match extents(line, width, offset) {
+        Ok(edges) => print!(rt; "{} {}", edges.left, edges.right),
+        Err(refusal) => print!(rt; "{refusal}"),
     }
-    say_line(r.left);
-    say(b" ");
-    say_line(r.right);
 }
 
-fn say_parallels(line: Line, width: i64, offset: Offset) {
+fn say_parallels(rt: &impl Print, line: Line, width: i64, offset: Offset) -> io::Result<()> {
     let mut out = [0i64; 4096];
-    say_parallels_by(line, width, offset, &mut out);
+    let listed = list_parallels(line, width, offset, &mut out);
+    say_listed(rt, listed, 4, &out)
 }
 
-fn say_parallels_by(line: Line, width: i64, offset: Offset, out: &mut [i64]) {
-    let r = list_parallels(line, width, offset, &mut *out);
-    if r.refusal != 0 {
-        say_refused(r.refusal);
-        return;
-    }
-    say_count(r.count as u64);
-    if r.count <= 4096 {
-        say_first(out, 4 * r.count);
-    }
-}
-
-fn say_points(line: Line, width: i64) {
+fn say_points(rt: &impl Print, line: Line, width: i64) -> io::Result<()> {
     let mut out = [0i64; 4096];
-    say_points_by(line, width, &mut out);
+    let listed = list_thick_points(line, width, &mut out);
+    say_listed(rt, listed, 2, &out)
 }
 
-fn say_points_by(line: Line, width: i64, out: &mut [i64]) {
-    let r = list_thick_points(line, width, &mut *out);
-    if r.refusal != 0 {
-        say_refused(r.refusal);
-        return;
-    }
-    say_count(r.count as u64);
-    if r.count <= 4096 {
-        say_first(out, 2 * r.count);
-    }
-}
-
-/// The first n numbers of a list.
-fn say_first(numbers: &[i64], n: usize) {
-    if n <= numbers.len() {
-        say_numbers(&numbers[..n]);
+/// How many were listed, and then `each` numbers of every one, from the front of a list.
+fn say_listed(
+    rt: &impl Print,
+    listed: Result<usize, Refusal>,
+    each: usize,
+    numbers: &[i64],
+) -> io::Result<()> {
+    match listed {
+        Ok(count) => {
+            let n = count.saturating_mul(each).min(numbers.len());
+            print!(rt; "{count}{}", Numbers(&numbers[..n]))
+        }
+        Err(refusal) => print!(rt; "{refusal}"),
     }
 }

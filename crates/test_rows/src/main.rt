@@ -3,37 +3,26 @@
 //! (oracle/README.md).
 #![tactic(auto)]
 
-ghost use Rattle.std.specs.Prelude.{◌≡◌, length};
-
-use test_text::read_bytes;
+use test_text::{read_bytes, room};
 
 /// The descriptor of standard input.
 const STDIN: i32 = 0;
 
 fn main() {
-    let mut lines = room();
+    let mut lines = room::<524288>();
     let n = io::read_full(STDIN, &mut lines);
     print_all(&lines[..n]);
 }
 
-/// Room for all lines. The contract gives the length alone, which lending it needs.
-fn room() -> [u8; 524288]
-    ensures { 524288 ≡ length result }
-{
-    [0; 524288]
-}
-
 fn print_all(lines: &[u8]) {
-    let mut at = 0;
-    while at < lines.len() {
-        print_line(lines, at);
-        at = test_numbers::skip_past(lines, at, b'\n');
+    for line in lines.split_inclusive(|byte| *byte == b'\n') {
+        print_line(line);
     }
 }
 
 /// Of a file that is too long the first 65,536 bytes are kept, which are too many as well.
-fn print_line(lines: &[u8], at: usize) {
-    let mut file = [0u8; 65536];
-    let n = read_bytes(lines, at, &mut file);
+fn print_line(line: &[u8]) {
+    let mut file = [0; 65536];
+    let n = read_bytes(line, 0, &mut file);
     row_text::print_file(&file[..n]);
 }

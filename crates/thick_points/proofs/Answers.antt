@@ -1,6 +1,6 @@
 -- What the two entries answer, without the code: each refusal exactly when, and what stands in the answer and in the list. Assumes
 -- nothing.
-use mathlib.Core.Path.{◌≡◌, refl}
+use mathlib.Core.Path.{◌≡◌, refl, ap, ◌∙◌}
 use mathlib.Core.Logic.{◌↔◌}
 use mathlib.Core.Bool.{Bool, true, false, cond}
 use mathlib.Core.List.{List, ◌++◌}
@@ -21,8 +21,7 @@ use Rattle.shapes.specs.Strokes.{Thin, is_thin, stroke_refusal}
 use Rattle.shapes.proofs.Laws.{line-near-iff}
 use Rattle.shapes.proofs.Widths.{stroke-three, stroke-four, stroke-none}
 use Rattle.parallels.specs.Parallels.{parallels_of}
-use Rattle.thick_points.specs.declared.Listed.{Listed}
-use Rattle.thick_points.specs.Listing.{thick_points_of, parallel_numbers, point_numbers, listed, list_refusal, answered, written, parallels_refusal, points_refusal}
+use Rattle.thick_points.specs.Listing.{thick_points_of, parallel_numbers, point_numbers, listed, list_refusal, Listed, answered, written, parallels_refusal, points_refusal}
 use Rattle.thick_points.proofs.Lists.{sets-listed, numbers-length, points-length}
 
 -- ---- two refusals, n first: a number of the first, and one of the second or 0
@@ -107,6 +106,9 @@ each-by false d count some e = zero-div d
 pub each : (n d count : ℕ) {total : ℕ} → 0 < d → total ≡ d * count → answer (answered n total).refusal ((answered n total).count / d) ≡ answered n count
 unfolding answered
 each n d count some e = rw (each-by (eqb n 0) d count some e)
+
+pub each-told : (n d count : ℕ) {total r m : ℕ} → 0 < d → total ≡ d * count → answer r m ≡ answered n total → answer r (m / d) ≡ answered n count
+each-told n d count some e told = ap (λ (v : Listed). answer v.refusal (v.count / d)) told ∙ each n d count some e
 
 -- ---- what the listing answers, by the tests on the way
 

@@ -1,10 +1,11 @@
 -- The parallels of a line and its thick points, as numbers in a lent list.
-use Rattle.std.specs.Prelude.{Bool, cond, List, [], ◌∷◌, ◌++◌, ℕ, ◌+◌, ◌*◌, ◌-◌, ◌≤◌, ltb, eqb, ℤ, pos, nat_abs, neg_ℤ, ◌+ℤ◌, length, drop, ◌≤ℤ◌}
+use Rattle.std.specs.Prelude.{Bool, cond, List, [], ◌∷◌, ◌++◌, ℕ, ◌+◌, ◌*◌, ◌-◌, ◌≤◌, ltb, eqb, ℤ, pos, nat_abs, neg_ℤ, ◌+ℤ◌, length, drop, ◌≤ℤ◌, Result, Ok, Err}
 use Rattle.shapes.specs.declared.Point.{Point}
 use Rattle.shapes.specs.declared.Line.{Line}
 use Rattle.shapes.specs.declared.Offset.{Offset}
 use Rattle.shapes.specs.declared.Offset.TheVariants as offset
-use Rattle.shapes.specs.Refusals.{room_refused, or_else}
+use Rattle.shapes.specs.declared.refusals.Refusal.{Refusal}
+use Rattle.shapes.specs.Refusals.{room_refused, or_else, number_of}
 use Rattle.shapes.specs.Shape.{is_line_near}
 use Rattle.shapes.specs.Strokes.{stroke_refusal}
 use Rattle.bresenham.specs.declared.Parameters.{Parameters}
@@ -12,7 +13,6 @@ use Rattle.bresenham.specs.declared.Bresenham.{Bresenham}
 use Rattle.bresenham.specs.Points.{points_from, major_length}
 use Rattle.parallels.specs.declared.Parallel.{Parallel}
 use Rattle.parallels.specs.Parallels.{plan_of, parallels_of}
-use Rattle.thick_points.specs.declared.Listed.{Listed}
 use Rattle.thick_points.specs.declared.inner.Telling.{Telling}
 use Rattle.thick_points.specs.declared.inner.Telling.TheVariants.{Start, Points}
 
@@ -54,6 +54,15 @@ listed out ns = ns ++ drop (length ns) out
 -- 3, then 4, then 8 where the list is too short
 unfoldable pub list_refusal : ℕ → Line → ℤ → List ℤ → List ℤ → ℕ
 list_refusal k l width ns out = or_else (stroke_refusal width (is_line_near k l)) (cond (ltb (length out) (length ns)) room_refused 0)
+
+-- the answer as numbers: a refusal, or 0 and how many were written
+pub record Listed : Type 0 where
+  pub refusal : ℕ
+  pub count : ℕ
+
+abbrev pub listed_values : Result ℕ Refusal → Listed
+listed_values (Ok count) = record { refusal = 0; count = count }
+listed_values (Err r) = record { refusal = number_of r; count = 0 }
 
 -- a refusal writes nothing and counts nothing
 unfoldable pub answered : ℕ → ℕ → Listed

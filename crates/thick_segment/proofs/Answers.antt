@@ -18,12 +18,11 @@ use Rattle.shapes.specs.Spans.{SpanSound}
 use Rattle.line_join.specs.Words.{Named, BendTold}
 use Rattle.line_join.proofs.Named.{chosen-bend, bend-told, chosen-told}
 use Rattle.thick_segment.specs.declared.Segment.{Segment}
-use Rattle.thick_segment.specs.declared.SegmentSpan.{SegmentSpan}
 use Rattle.thick_segment.specs.Segments.{SegmentNear, is_segment_near, far_bend, is_skeleton, edges_of, bounding_box, rows_of, perimeter_of, count_of, span_on}
 use Rattle.thick_segment.specs.Rows.{rows_from, box_rows, drawn_rows}
 use Rattle.thick_segment.specs.Words.{joins_in, HasRow, EndsNear}
 use Rattle.thick_segment.specs.declared.Rows.{Rows}
-use Rattle.thick_segment.specs.Answers.{no_edges, no_box, spanned, skeleton_answer, edges_answer, box_answer, perimeter_answer, count_answer, drawn_rows_answer, segment_refusal, span_answer}
+use Rattle.thick_segment.specs.Answers.{SegmentSpan, no_edges, no_box, spanned, skeleton_answer, edges_answer, box_answer, perimeter_answer, count_answer, drawn_rows_answer, segment_refusal, span_answer}
 use Rattle.thick_segment.proofs.Refused.{segment-near-iff, segment-five, segment-none}
 use Rattle.thick_segment.proofs.Named.{near-bend, segment-named, named-far}
 use Rattle.thick_segment.proofs.Laws.{span-sound, box-near}

@@ -29,11 +29,11 @@ use Rattle.scanline.proofs.Rows.{row-exactly}
 use Rattle.scanline.proofs.Laws.{met-off}
 use Rattle.line_join.specs.declared.Kind.{Kind}
 use Rattle.line_join.specs.declared.Kind.TheVariants.{Miter, Bevel, Degenerate, Colinear, Start, End}
-use Rattle.line_join.specs.declared.Corners.{Corners}
+use Rattle.line_join.specs.Sides.{Corners}
 use Rattle.line_join.specs.declared.Join.{Join}
-use Rattle.line_join.specs.declared.Filler.TheVariants.{Filled}
+use Rattle.std.specs.Prelude.{Some}
 use Rattle.line_join.specs.declared.Caps.{Caps}
-use Rattle.line_join.specs.declared.Caps.TheVariants.{One, Two, Refused}
+use Rattle.line_join.specs.declared.Caps.TheVariants.{One, Two}
 use Rattle.line_join.specs.Join.{outer}
 use Rattle.line_join.specs.Caps.{JoinNear, between, filler_by, capped_by, filler_of, cap_of, start_caps_of, end_caps_of}
 use Rattle.thick_segment.proofs.Scanned.{Each, none, more}
@@ -46,7 +46,6 @@ use Rattle.thick_segment.specs.Segments.{SegmentNear, top_of, bottom_of, is_skel
 pub caps-most : (k : Caps) → length (cap_lines k) ≤ 2
 caps-most (One l) = lit≤ tt
 caps-most (Two l m) = lit≤ tt
-caps-most (Refused n b) = lit≤ tt
 
 drawn-by : (s : Segment) (t : Bool) → is_skeleton s ≡ t → length (drawn s) ≤ 6
 unfolding drawn
@@ -83,7 +82,7 @@ module _ (P : Point → Type 0) where
     one-cap : {c : Corners} → CornersHave c → Ends (line_of c.left c.right ∷ [])
     one-cap h = and-line h.left h.right no_lines
 
-    two-caps : (s : Side) (j : Join) {c : Corners} → JoinHas j → CornersHave c → Ends (cap_lines (capped_by (Filled (between s j.ending j.starting)) c))
+    two-caps : (s : Side) (j : Join) {c : Corners} → JoinHas j → CornersHave c → Ends (cap_lines (capped_by (Some (between s j.ending j.starting)) c))
     two-caps s j g h =
         let m = middle (between s j.ending j.starting) (outer-has s g.ending) (outer-has s g.starting) in
         and-line h.left m (and-line m h.right no_lines)

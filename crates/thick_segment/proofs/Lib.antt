@@ -1,5 +1,6 @@
 pub mod Answers
 pub mod Drawn
+pub mod Extremes
 pub mod Laws
 pub mod Lit
 pub mod Named

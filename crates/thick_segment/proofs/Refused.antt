@@ -6,15 +6,17 @@ use Prim.Native.Nat.{ℕ, ◌≤◌}
 use native.Mathlib.Omega.{arith}
 use lib.Dec.{lit≤}
 use lib.IntN.{ℤ}
+use Rattle.std.specs.Prelude.{Ok, Err}
 use Rattle.whole.specs.Number.{Within, is_within}
-use Rattle.whole.proofs.Tests.{and-iff, never, good-first, good-later}
+use Rattle.whole.proofs.Tests.{and-iff, else-true, never, good-first, good-later}
+use Rattle.shapes.specs.declared.refusals.Refusal.TheVariants.{Corner}
 use Rattle.shapes.specs.Limits.{corner_limit, line_limit}
 use Rattle.line_join.specs.Caps.{is_join_near}
 use Rattle.line_join.proofs.Room.{join-near-more, join-near-iff}
 use Rattle.whole.proofs.Laws.{within-iff}
 use Rattle.thick_segment.specs.declared.Segment.{Segment}
-use Rattle.thick_segment.specs.Segments.{SegmentNear, is_segment_near}
-use Rattle.thick_segment.specs.Answers.{segment_refusal}
+use Rattle.thick_segment.specs.Segments.{SegmentNear, is_segment_near, far_bend}
+use Rattle.thick_segment.specs.Answers.{if_near, segment_refusal}
 
 -- the entries' test says that all corners of both joins are within the limit
 pub segment-near-iff : (k : ℕ) (s : Segment) → (is_segment_near k s ≡ true) ↔ SegmentNear k s
@@ -29,6 +31,17 @@ segment-more h le = record { start_near = join-near-more h.start_near le; end_ne
 -- what passes the entries' test is small enough
 pub segment-room : (s : Segment) → is_segment_near corner_limit s ≡ true → SegmentNear line_limit s
 segment-room s e = segment-more ((segment-near-iff corner_limit s).0 e) (lit≤ tt)
+
+-- and so is what is not refused
+pub let-through : (s : Segment) (u v : Unit {0}) → Ok u ≡ if_near corner_limit s v → is_segment_near corner_limit s ≡ true
+unfolding if_near
+let-through s u v e = else-true (is_segment_near corner_limit s) (λ far. let no : Ok u ≡ Err (Corner (far_bend corner_limit s)) = rw far at e in cc)
+
+pub through-near : (s : Segment) (u v : Unit {0}) → Ok u ≡ if_near corner_limit s v → SegmentNear corner_limit s
+through-near s u v e = (segment-near-iff corner_limit s).0 (let-through s u v e)
+
+pub through-room : (s : Segment) (u v : Unit {0}) → Ok u ≡ if_near corner_limit s v → SegmentNear line_limit s
+through-room s u v e = segment-room s (let-through s u v e)
 
 -- ---- the span's two refusals, in 01's order
 

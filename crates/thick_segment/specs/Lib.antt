@@ -2,3 +2,4 @@ pub mod Answers
 pub mod Rows
 pub mod Segments
 pub mod Words
+pub mod Sides

@@ -7,13 +7,13 @@ use Rattle.shapes.specs.declared.Span.{Span}
 use Rattle.shapes.specs.Shape.{point_of, line_of, same_point, LineNear}
 use Rattle.scanline.specs.Spans.{new_span}
 use Rattle.scanline.specs.Meeting.{met}
-use Rattle.line_join.specs.declared.Corners.{Corners}
+use Rattle.line_join.specs.Sides.{Corners}
 use Rattle.line_join.specs.declared.Join.{Join}
 use Rattle.line_join.specs.declared.Caps.{Caps}
-use Rattle.line_join.specs.declared.Caps.TheVariants.{One, Two, Refused}
+use Rattle.line_join.specs.declared.Caps.TheVariants.{One, Two}
 use Rattle.line_join.specs.Caps.{JoinNear, is_join_near, start_caps_of, end_caps_of}
 use Rattle.thick_segment.specs.declared.Segment.{Segment}
-use Rattle.thick_segment.specs.declared.EdgePair.{EdgePair}
+use Rattle.thick_segment.specs.Sides.{EdgePair}
 use Rattle.thick_segment.specs.declared.Rectangle.{Rectangle}
 
 -- ---- bounds
@@ -81,7 +81,6 @@ bounding_box s = cond (is_skeleton s) (box_of (edges_of s).left) (union (box_of 
 abbrev pub cap_lines : Caps → List Line
 cap_lines (One l) = l ∷ []
 cap_lines (Two l m) = l ∷ m ∷ []
-cap_lines (Refused n b) = []
 
 -- of a skeleton the right edge, else the caps of the start, those of the end, and the edges: six at most
 unfoldable pub drawn : Segment → List Line

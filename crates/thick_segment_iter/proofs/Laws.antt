@@ -4,10 +4,15 @@ use mathlib.Core.Logic.{◌↔◌, ◌≢◌}
 use mathlib.Core.Bool.{false}
 use mathlib.Core.List.{List}
 use Prim.Native.Nat.{ℕ, ◌+◌, ◌<◌}
-use borrow.Author.Tests.{eq-eqb}
+use native.Mathlib.Omega.{arith}
+use borrow.Author.Tests.{eq-eqb, ne_eqb}
 use lib.Dec.{eqb}
 use lib.IntN.{ℤ, pos}
+use Rattle.std.specs.Prelude.{Ok, Err}
 use Rattle.whole.proofs.Tests.{Chosen, chosen, eqb-iff}
+use Rattle.shapes.specs.declared.refusals.Refusal.{Refusal}
+use Rattle.shapes.specs.Refusals.{number_of}
+use Rattle.shapes.proofs.Numbers.{number-above}
 use Rattle.shapes.specs.declared.limits.Limits.{Limits}
 use Rattle.shapes.specs.declared.Offset.TheVariants.{None}
 use Rattle.line_join.specs.Words.{BendTold}
@@ -19,8 +24,7 @@ use Rattle.route_joins.specs.Joins.{end_place, open_segment, open_count}
 use Rattle.route_joins.specs.Steps.{StepTold, SegmentBySegment}
 use Rattle.route_joins.proofs.Walks.{place_kept, route-told, route-in-turn, route-five, route-other, route-step-bend, route-step-positions, route-refused-none, refusal-told}
 use Rattle.thick_segment_iter.specs.declared.Walk.{Walk}
-use Rattle.thick_segment_iter.specs.declared.Started.{Started}
-use Rattle.thick_segment_iter.specs.Walks.{open_start, open_step, after_open}
+use Rattle.thick_segment_iter.specs.Walks.{Started, start_values, open_start, open_step, after_open}
 
 module _ (limits : Limits) (cs : List ℤ) (w : ℤ) (accepted : Accepted limits.point false cs w) where
   abbrev at : ℕ → Walk
@@ -88,3 +92,16 @@ module _ (k : ℕ) (cs : List ℤ) (w : ℤ) where
       (record { refusal = route_refusal k false cs w; walk = record { place = 0; width = pos 0 } })
   unfolding open_start
   start-chosen = chosen (eqb (route_refusal k false cs w) 0) _ _ (eqb-iff (route_refusal k false cs w) 0)
+
+-- ---- a start as the code comes to it
+
+module _ (k : ℕ) (cs : List ℤ) (w : ℤ) where
+  pub start-refused : (r : Refusal) → number_of r ≡ route_refusal k false cs w → start_values (Err r) ≡ open_start k cs w
+  unfolding open_start
+  start-refused r n = rw (← n, ne_eqb (number_of r) 0 (λ e. omega (arith, number-above r, e)))
+
+  pub start-begun : {v : ℤ} → v ≡ w → 0 ≡ route_refusal k false cs w → start_values (Ok (record { place = 0; width = v })) ≡ open_start k cs w
+  unfolding open_start
+  start-begun e n = rw (← n, e)
+
+pub ruleset begins = (start-refused, start-begun)

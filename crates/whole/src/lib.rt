@@ -4,7 +4,7 @@
 pub mod inner;
 
 /// How a division of whole numbers comes out.
-#[derive(Clone, Copy)]
+#[derive(Clone, Copy, Debug, PartialEq, Eq)]
 pub enum Division {
     /// The quotient is a whole number.
     Exact,

@@ -1,7 +1,7 @@
 //! Words and numbers written to standard output. No contract can say what is written.
 #![tactic(auto)]
 
-use shapes::refusals::CORNER;
+use shapes::refusals::Refusal;
 use whole::inner::size;
 
 /// The descriptor of standard output.
@@ -31,17 +31,12 @@ pub fn say_next(x: i64) {
     say_number(x);
 }
 
-/// Writes `refused` and the refusal's number.
-pub fn say_refused(number: u64) {
-    say(b"refused ");
-    say_count(number);
-}
-
 /// Writes `refused`, the refusal's number, and after 5 the position of the bend.
-pub fn say_refused_at(number: u64, bend: usize) {
-    say_refused(number);
-    if number == CORNER {
+pub fn say_refused(refusal: Refusal) {
+    say(b"refused ");
+    say_count(refusal.number());
+    if let Refusal::Corner(position) = refusal {
         say(b" ");
-        say_count(bend as u64);
+        say_count(position as u64);
     }
 }

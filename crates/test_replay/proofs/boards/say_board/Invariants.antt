@@ -1,9 +1,0 @@
--- The measure is how many runs are left.
-use Rattle.std.proofs.Common.{◌-◌, ◌≤◌}
-use Rattle.test_replay.proofs.boards.say_board.Given as goal
-
-abbrev pub invariant-loop-i : goal.invariant-loop-i
-invariant-loop-i l = l.i ≤ 32
-
-abbrev pub decreases-loop-i : goal.decreases-loop-i
-decreases-loop-i l = 32 - l.i
