@@ -18,7 +18,7 @@ use line_join::inner::is_join_near;
 use line_join::trace::no_crossings;
 use line_join::{Corners, Join, Kind};
 use route_joins::inner::{end_place, join_count, join_on};
-use shapes::limits::Limits;
+use shapes::limits::{Limits, ROUTE_POINTS};
 use shapes::refusals::Refusal;
 use shapes::spans::is_empty;
 use shapes::{Offset, Point};
@@ -65,7 +65,7 @@ pub fn joins_of(coordinates: &[i64], width: i64, closed: bool, limit: u32) -> Jo
     ensures { result ≡ joins_of limit closed coordinates.now width }
 {
     let count = join_count(coordinates);
-    let mut joins = [no_join(); 256];
+    let mut joins = [no_join(); ROUTE_POINTS];
     let mut near = 0;
     for i in 0..count {
         let join = join_on(coordinates, width, closed, Offset::None, i);

@@ -12,7 +12,7 @@ pub use board::Listed;
 use inner::{check_rows, prepare, row_of, rows_of};
 use line_join::Join;
 use shapes::limits;
-use shapes::limits::panel;
+use shapes::limits::{ROUTE_POINTS, panel};
 use shapes::refusals::Refusal;
 pub use thick_segment::Rows;
 
@@ -23,7 +23,7 @@ pub struct Joins {
     pub closed: bool,
     pub count: usize,
     pub near: usize,
-    pub joins: [Join; 256],
+    pub joins: [Join; ROUTE_POINTS],
 }
 
 /// The rows of a route: from the first to the last row of the lines that are drawn, so that both are lit and no row outside them is;

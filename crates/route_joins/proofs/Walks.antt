@@ -13,7 +13,8 @@ use lib.IntN.{ℤ, pos}
 use Rattle.std.specs.Prelude.{Some, None, Ok, Err}
 use Rattle.whole.proofs.Tests.{else-false, ltb_iff, eqb-iff, never, good-first, good-later}
 use Rattle.shapes.specs.declared.Point.{Point}
-use Rattle.shapes.specs.Refusals.{corner_refused}
+use Rattle.shapes.specs.declared.refusals.Refusal.{Refusal}
+use Rattle.shapes.specs.Refusals.{corner_refused, number_of, bend_of}
 use Rattle.thick_segment.specs.declared.Segment.{Segment}
 use Rattle.coordinates.specs.Points.{point_count}
 use Rattle.coordinates.specs.Refusal.{route_refusal, Accepted}
@@ -72,9 +73,9 @@ at_zero = record { x = pos 0; y = pos 0 }
 abbrev zeros : JoinValues
 zeros = record { refusal = 0; bend = 0; kind = 0; ending = record { left = at_zero; right = at_zero }; starting = record { left = at_zero; right = at_zero }; origins = no_crossings; position = 0 }
 
-pub refused-zeros : (n b : ℕ) → (refused_values n b) ≡ record { refusal = n; bend = b; found = 0; start = zeros; end = zeros }
+pub refused-zeros : (r : Refusal) → step_values (Err r) ≡ record { refusal = number_of r; bend = bend_of r; found = 0; start = zeros; end = zeros }
 unfolding step_values refused_values
-refused-zeros n b = refl
+refused-zeros r = refl
 
 -- where an answer leaves the walk: where no segment is answered, it stays
 pub place_kept : (v : StepValues) (place : ℕ) → v.found ≢ 1 → place_from v place ≡ place

@@ -70,6 +70,16 @@ pub fn next_segment(coordinates: &[i64], walk: Intersections) -> Stepped<Interse
     }
 }
 
+impl route_joins::Walk for Intersections {
+    ghost answer = { polyline_step panel_limits };
+
+    ghost after = { after_polyline panel_limits };
+
+    fn step(coordinates: &[i64], walk: Intersections) -> Stepped<Intersections> {
+        next_segment(coordinates, walk)
+    }
+}
+
 /// The next merged span: the spans of the segments left are gathered while each overlaps or is adjacent to what is gathered so far;
 /// no span is handed out that is empty. The list and the walk's width are refused with 1 to 4 and 12; then a route of which some
 /// join has a corner beyond 4,095 with 5, at the position of the first that has; then a row of the walk's span outside 4,095 with

@@ -9,32 +9,26 @@ use line_join::trace::no_crossings;
 use line_join::{Corners, Join, Kind, Origin, Origins};
 use shapes::{Divisions, Line, Side};
 use std::fmt;
-use test_numbers::number_at;
+use test_numbers::{Read, byte_at, number_at};
 use test_text::{after, line_at};
 use whole::Division;
 
-/// A join that was read, and the place of the number after it.
-#[derive(Clone, Copy, Debug, PartialEq, Eq)]
-pub struct JoinAt {
-    pub join: Join,
-    pub next: usize,
-}
-
-/// The join at a place: a digit for its kind, its position, and eight coordinates, a byte between each two. The corners at which
-/// the line before it ends come first, left before right; no corner is told to be a crossing. A position has no sign.
+/// The join at a place, and the place of the number after it: a digit for its kind, its position, and eight coordinates, a byte
+/// between each two. The corners at which the line before it ends come first, left before right; no corner is told to be a
+/// crossing. A position has no sign.
 #[tactic(auto, unfolding(crate::specs::Joins::join_at))]
-pub fn join_at(s: &[u8], at: usize) -> JoinAt
+pub fn join_at(s: &[u8], at: usize) -> Read<Join>
     ensures { result ≡ join_at s.now at }
 {
-    let kind = kind_of(test_numbers::byte_at(s, at));
+    let kind = kind_of(byte_at(s, at));
     let position = number_at(s, after(after(at)));
     let first = line_at(s, after(position.next));
     let second = line_at(s, first.next);
-    JoinAt {
-        join: Join {
+    Read {
+        value: Join {
             kind,
-            ending: corners_of(first.line),
-            starting: corners_of(second.line),
+            ending: corners_of(first.value),
+            starting: corners_of(second.value),
             origins: no_crossings(),
             position: position.value.unsigned_abs() as usize,
         },

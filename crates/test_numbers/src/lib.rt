@@ -8,36 +8,29 @@ ghost use Rattle.test_numbers.specs.Lines.{skip_past};
 /// A number has at most 18 digits.
 const DIGITS: usize = 18;
 
-/// What was read: the number, and the place after it.
+/// What was read at a place of a text, and the place where reading goes on.
 #[derive(Clone, Copy, Debug, PartialEq, Eq)]
-pub struct Number {
-    pub value: i64,
+pub struct Read<T> {
+    pub value: T,
     pub next: usize,
 }
 
-/// The number that digits say, and the place after them.
-#[derive(Clone, Copy, Debug, PartialEq, Eq)]
-struct Digits {
-    value: u64,
-    next: usize,
-}
-
-/// The whole number in decimal that begins at `at`: an optional '-', then at most 18 digits; whatever else comes ends it.
-/// With no digit there the number is 0, and the place is the one after the '-' where there is a '-', else `at`.
+/// The whole number in decimal that begins at `at`, and the place after it: an optional '-', then at most 18 digits; whatever
+/// else comes ends it. With no digit there the number is 0, and the place is the one after the '-' where there is a '-', else `at`.
 /// Past the end of the text the number is 0, and the place stays `at`.
 #[tactic(auto, using(crate::proofs::Reading::reading), unfolding(crate::specs::Numbers::number_at))]
-pub fn number_at(s: &[u8], at: usize) -> Number
+pub fn number_at(s: &[u8], at: usize) -> Read<i64>
     ensures { result ≡ number_at s.now at }
 {
     if byte_at(s, at) == b'-' {
         let d = digits_at(s, at + 1);
-        return Number {
+        return Read {
             value: -(d.value as i64),
             next: d.next,
         };
     }
     let d = digits_at(s, at);
-    Number {
+    Read {
         value: d.value as i64,
         next: d.next,
     }
@@ -56,8 +49,8 @@ pub fn skip_past(s: &[u8], at: usize, b: u8) -> usize
     at.max(s.len())
 }
 
-/// The number that the digits from `at` on say, at most 18 of them; 0 where there is none.
-fn digits_at(s: &[u8], at: usize) -> Digits
+/// The number that the digits from `at` on say, at most 18 of them, and the place after them; 0 and `at` where there is none.
+fn digits_at(s: &[u8], at: usize) -> Read<u64>
     ensures { result ≡ digits_at s.now at }
 {
     let mut value = 0;
@@ -70,7 +63,7 @@ fn digits_at(s: &[u8], at: usize) -> Digits
         value = value * 10 + u64::from(b - b'0');
         next += 1;
     }
-    Digits { value, next }
+    Read { value, next }
 }
 
 /// The byte at `at`; 0 past the end, which is neither a digit nor a '-'.

@@ -16,8 +16,10 @@ use test_text::{Numbers, size_up_to};
 /// Answers each event of a text, from a board with no runs on row 0.
 pub fn replay(rt: &impl Print, events: &[u8]) -> Result<()> {
     let mut board = empty_board(0);
-    for event in events.split(|byte| *byte == b'\n') {
-        answer(rt, event, &mut board)?;
+    let mut rest = events;
+    for line in events.split_inclusive(|byte| *byte == b'\n') {
+        answer(rt, rest, &mut board)?;
+        rest = rest.get(line.len()..).unwrap_or_default();
     }
     Ok(())
 }

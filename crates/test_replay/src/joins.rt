@@ -13,8 +13,8 @@ pub fn answer(rt: &impl Print, kind: u8, questions: &[u8], at: usize) -> io::Res
     match kind {
         b'a' | b'z' => answer_end(rt, kind, questions, at),
         b'j' => answer_points(rt, questions, at),
-        b'f' => say_lines(rt, join_at(questions, at).join),
-        b'g' => say_each(rt, join_at(questions, at).join),
+        b'f' => say_lines(rt, join_at(questions, at).value),
+        b'g' => say_each(rt, join_at(questions, at).value),
         _ => Ok(()),
     }
 }
@@ -22,7 +22,7 @@ pub fn answer(rt: &impl Print, kind: u8, questions: &[u8], at: usize) -> io::Res
 /// The join at the start or at the end of a line.
 fn answer_end(rt: &impl Print, kind: u8, questions: &[u8], at: usize) -> io::Result<()> {
     let asked = line_at(questions, at);
-    let line = asked.line;
+    let line = asked.value;
     let width = test_numbers::number_at(questions, asked.next);
     let offset = offset_at(questions, after(width.next));
     if kind == b'a' {
@@ -34,13 +34,13 @@ fn answer_end(rt: &impl Print, kind: u8, questions: &[u8], at: usize) -> io::Res
 
 fn answer_points(rt: &impl Print, questions: &[u8], at: usize) -> io::Result<()> {
     let asked = line_at(questions, at);
-    let line = asked.line;
+    let line = asked.value;
     let last = point_at(questions, asked.next);
     let width = test_numbers::number_at(questions, last.next);
     let offset = offset_at(questions, after(width.next));
     say_joined(
         rt,
-        from_points(line.start, line.end, last.point, width.value, offset),
+        from_points(line.start, line.end, last.value, width.value, offset),
     )
 }
 

@@ -10,8 +10,8 @@ use test_text::line_at;
 /// The points a to d, of which the last may be missing.
 pub fn answer(rt: &impl Print, kind: u8, questions: &[u8], at: usize) -> Result<()> {
     let first = line_at(questions, at);
-    let second = line_at(questions, first.next).line;
-    let line = first.line;
+    let second = line_at(questions, first.next).value;
+    let line = first.value;
     let point = second.start;
     match kind {
         b'e' => say_equation(rt, line),

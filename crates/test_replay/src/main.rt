@@ -2,7 +2,7 @@
 //! this repository's code (oracle/README.md).
 #![tactic(auto)]
 
-ghost use Rattle.std.specs.Prelude.{◌≤◌, length, IfOk};
+ghost use Rattle.std.specs.Prelude.{◌≤◌, ◌<◌, length, IfOk};
 
 mod answers; // answers.rt: answers as text
 mod boards; // boards.rt: histories of boards
@@ -28,20 +28,21 @@ fn main(rt: HostRuntime) -> Result<()> {
         "walks",
         "fields",
     ] {
-        answer_list(&rt, name, |questions| answer_all(&rt, questions))?;
+        answer_list::<524288, _>(&rt, name, |questions| answer_all(&rt, questions))?;
     }
-    answer_list(&rt, "boards", |events| boards::replay(&rt, events))
+    answer_list::<65536, _>(&rt, "boards", |events| boards::replay(&rt, events))
 }
 
-/// Answers the list of a file, of which the first 524,288 bytes are kept.
-fn answer_list<A: FnOnce(&[u8]) -> Result<()>>(
+/// Answers the list of a file, of which the first `N` bytes are kept.
+fn answer_list<const N: usize, A: FnOnce(&[u8]) -> Result<()>>(
     rt: &HostRuntime,
     name: &str,
     answer: A,
 ) -> Result<()>
-    requires { A.IsAlwaysCallable answer }
+    requires callable { A.IsAlwaysCallable answer }
+    requires sized { N < 9223372036854775808 }
 {
-    let mut list = room::<524288>();
+    let mut list = room::<N>();
     let n = read_file(rt, name, &mut list)?;
     answer(&list[..n])
 }
@@ -63,13 +64,15 @@ fn read_file(rt: &HostRuntime, name: &str, bytes: &mut [u8]) -> Result<usize>
 }
 
 fn answer_all(rt: &impl Print, questions: &[u8]) -> Result<()> {
-    for question in questions.split_inclusive(|byte| *byte == b'\n') {
-        answer(rt, question)?;
+    let mut rest = questions;
+    for line in questions.split_inclusive(|byte| *byte == b'\n') {
+        answer(rt, rest)?;
+        rest = rest.get(line.len()..).unwrap_or_default();
     }
     Ok(())
 }
 
-/// A letter that names the kind, and its numbers.
+/// A letter that names the kind, and its numbers: they are read on past the line's end.
 fn answer(rt: &impl Print, question: &[u8]) -> Result<()> {
     answer_kind(rt, byte_at(question, 0), question, 2)?;
     println!(rt)

@@ -5,25 +5,12 @@ use shapes::Span;
 use shapes::refusals::Refusal;
 use std::{fmt, io};
 use test_joins::join_at;
+use test_numbers::{Read, number_at};
 use test_text::{Numbers, after, line_at};
 use thick_segment::{
     EdgePair, Rectangle, Segment, drawn_rows, edges, edges_bounding_box, is_skeleton, perimeter,
     perimeter_count, span,
 };
-
-/// A segment that was read, and the place of the number after it.
-#[derive(Clone, Copy, Debug, PartialEq, Eq)]
-struct SegmentAt {
-    segment: Segment,
-    next: usize,
-}
-
-/// A span that was read, and the place of the number after it.
-#[derive(Clone, Copy, Debug, PartialEq, Eq)]
-struct SpanAt {
-    span: Span,
-    next: usize,
-}
 
 pub fn answer(rt: &impl Print, kind: u8, questions: &[u8], at: usize) -> io::Result<()> {
     match kind {
@@ -38,8 +25,8 @@ pub fn answer(rt: &impl Print, kind: u8, questions: &[u8], at: usize) -> io::Res
 /// A segment, and a row, which may be missing.
 fn answer_segment(rt: &impl Print, kind: u8, questions: &[u8], at: usize) -> io::Result<()> {
     let asked = segment_at(questions, at);
-    let segment = asked.segment;
-    let row = test_numbers::number_at(questions, asked.next).value;
+    let segment = asked.value;
+    let row = number_at(questions, asked.next).value;
     match kind {
         b'k' => say_segment(rt, segment),
         b'q' => say_drawn_rows(rt, segment),
@@ -51,15 +38,15 @@ fn answer_segment(rt: &impl Print, kind: u8, questions: &[u8], at: usize) -> io:
 
 fn answer_meet(rt: &impl Print, questions: &[u8], at: usize) -> io::Result<()> {
     let asked = line_at(questions, at);
-    let mut span = span_at(questions, asked.next).span;
-    say_span(rt, meet(&mut span, asked.line).map(|()| span))
+    let mut span = span_at(questions, asked.next).value;
+    say_span(rt, meet(&mut span, asked.value).map(|()| span))
 }
 
 fn answer_extend(rt: &impl Print, questions: &[u8], at: usize) -> io::Result<()> {
     let first = span_at(questions, at);
     let second = span_at(questions, first.next);
-    let mut span = first.span;
-    match try_extend(&mut span, second.span) {
+    let mut span = first.value;
+    match try_extend(&mut span, second.value) {
         Ok(joined) => print!(rt; "{joined} {}", Columns(span)),
         Err(refusal) => print!(rt; "{refusal}"),
     }
@@ -67,33 +54,33 @@ fn answer_extend(rt: &impl Print, questions: &[u8], at: usize) -> io::Result<()>
 
 /// Whether a span is handed out, that span, and what is left, behind the refusal, 0 where there is none.
 fn answer_take(rt: &impl Print, questions: &[u8], at: usize) -> io::Result<()> {
-    let mut span = span_at(questions, at).span;
+    let mut span = span_at(questions, at).value;
     let taken = try_take(&mut span);
     let refusal = Number(taken.err());
     let handed = Found(taken.unwrap_or(None));
     print!(rt; "{refusal} {handed} | {span}")
 }
 
-/// Two joins.
-fn segment_at(questions: &[u8], at: usize) -> SegmentAt {
+/// Two joins, and the place of the number after them.
+fn segment_at(questions: &[u8], at: usize) -> Read<Segment> {
     let first = join_at(questions, at);
     let last = join_at(questions, first.next);
-    SegmentAt {
-        segment: Segment {
-            start: first.join,
-            end: last.join,
+    Read {
+        value: Segment {
+            start: first.value,
+            end: last.value,
         },
         next: last.next,
     }
 }
 
-/// A row, and the columns at which a span starts and ends.
-fn span_at(questions: &[u8], at: usize) -> SpanAt {
-    let row = test_numbers::number_at(questions, at);
-    let start = test_numbers::number_at(questions, after(row.next));
-    let end = test_numbers::number_at(questions, after(start.next));
-    SpanAt {
-        span: Span {
+/// A row, and the columns at which a span starts and ends; and the place of the number after them.
+fn span_at(questions: &[u8], at: usize) -> Read<Span> {
+    let row = number_at(questions, at);
+    let start = number_at(questions, after(row.next));
+    let end = number_at(questions, after(start.next));
+    Read {
+        value: Span {
             row: row.value,
             start: start.value,
             end: end.value,

@@ -9,7 +9,7 @@ use thick_points::{list_parallels, list_thick_points};
 /// A line, a width, and an offset, which may be missing.
 pub fn answer(rt: &impl Print, kind: u8, questions: &[u8], at: usize) -> io::Result<()> {
     let asked = line_at(questions, at);
-    let line = asked.line;
+    let line = asked.value;
     let width = test_numbers::number_at(questions, asked.next);
     let offset = offset_at(questions, after(width.next));
     match kind {

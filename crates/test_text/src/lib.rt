@@ -6,20 +6,7 @@ ghost use Rattle.test_text.specs.Questions.{next_place, point_at, line_at, offse
 
 use shapes::{Line, Offset, Point};
 use std::fmt;
-
-/// A point that was read, and the place of the number after it.
-#[derive(Clone, Copy, Debug, PartialEq, Eq)]
-pub struct PointAt {
-    pub point: Point,
-    pub next: usize,
-}
-
-/// A line that was read, and the place of the number after it.
-#[derive(Clone, Copy, Debug, PartialEq, Eq)]
-pub struct LineAt {
-    pub line: Line,
-    pub next: usize,
-}
+use test_numbers::{Read, byte_at, number_at};
 
 /// The place after a byte, in a text of less than four million bytes; there the place stays.
 #[tactic(auto, unfolding(crate::specs::Questions::next_place))]
@@ -36,15 +23,15 @@ pub fn size_up_to(most: usize, n: i64) -> usize
     usize::try_from(n).unwrap_or(most).min(most)
 }
 
-/// The point whose coordinates stand at a place, a byte between them.
+/// The point whose coordinates stand at a place, a byte between them, and the place of the number after it.
 #[tactic(auto, unfolding(crate::specs::Questions::point_at))]
-pub fn point_at(s: &[u8], at: usize) -> PointAt
+pub fn point_at(s: &[u8], at: usize) -> Read<Point>
     ensures { result ≡ point_at s.now at }
 {
-    let x = test_numbers::number_at(s, at);
-    let y = test_numbers::number_at(s, after(x.next));
-    PointAt {
-        point: Point {
+    let x = number_at(s, at);
+    let y = number_at(s, after(x.next));
+    Read {
+        value: Point {
             x: x.value,
             y: y.value,
         },
@@ -52,17 +39,17 @@ pub fn point_at(s: &[u8], at: usize) -> PointAt
     }
 }
 
-/// The line whose start and end stand at a place, a byte between them.
+/// The line whose start and end stand at a place, a byte between them, and the place of the number after it.
 #[tactic(auto, unfolding(crate::specs::Questions::line_at))]
-pub fn line_at(s: &[u8], at: usize) -> LineAt
+pub fn line_at(s: &[u8], at: usize) -> Read<Line>
     ensures { result ≡ line_at s.now at }
 {
     let a = point_at(s, at);
     let b = point_at(s, a.next);
-    LineAt {
-        line: Line {
-            start: a.point,
-            end: b.point,
+    Read {
+        value: Line {
+            start: a.value,
+            end: b.value,
         },
         next: b.next,
     }
@@ -73,7 +60,7 @@ pub fn line_at(s: &[u8], at: usize) -> LineAt
 pub fn offset_at(s: &[u8], at: usize) -> Offset
     ensures { result ≡ offset_at s.now at }
 {
-    match test_numbers::byte_at(s, at) {
+    match byte_at(s, at) {
         b'1' => Offset::Left,
         b'2' => Offset::Right,
         _ => Offset::None,
@@ -87,8 +74,8 @@ pub fn read_bytes(lines: &[u8], at: usize, file: &mut [u8]) -> usize
 {
     let mut next = at;
     for n in 0..file.len() {
-        let high = digit_of(test_numbers::byte_at(lines, next));
-        let low = digit_of(test_numbers::byte_at(lines, after(next)));
+        let high = digit_of(byte_at(lines, next));
+        let low = digit_of(byte_at(lines, after(next)));
         let (Some(high), Some(low)) = (high, low) else {
             return n;
         };
