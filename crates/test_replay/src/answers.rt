@@ -1,4 +1,5 @@
 //! Answers as text.
+use scanline::inner::new_span;
 use shapes::Span;
 use shapes::refusals::Refusal;
 use std::fmt;
@@ -53,15 +54,6 @@ pub struct Found(pub Option<Span>);
 
 impl fmt::Display for Found {
     fn fmt<W: fmt::Write>(&self, f: &mut fmt::Formatter<W>) -> fmt::Result {
-        write!(f, "{} {}", self.0.is_some(), self.0.unwrap_or(no_span()))
-    }
-}
-
-/// What stands for no span.
-pub fn no_span() -> Span {
-    Span {
-        row: 0,
-        start: 0,
-        end: 0,
+        write!(f, "{} {}", self.0.is_some(), self.0.unwrap_or(new_span(0)))
     }
 }

@@ -1,8 +1,9 @@
 //! Questions on walks along a route, and on its merged spans.
-use crate::answers::{Bend, Columns, Found, Number, no_span};
+use crate::answers::{Bend, Columns, Found, Number};
 use crate::rows::say_rows;
 use closed_thick_segment_iter::Walk as ClosedWalk;
 use route_joins::{Stepped, Walk};
+use scanline::inner::new_span;
 use scanline_intersections::Intersections;
 use shapes::refusals::Refusal;
 use shapes::{Offset, Span};
@@ -184,7 +185,7 @@ fn say_starts(
     let walk = answer.unwrap_or(Intersections {
         place: 0,
         width: 0,
-        span: no_span(),
+        span: new_span(0),
     });
     let refusal = Number(answer.err());
     print!(rt; "{refusal} {} {} {}", walk.place, walk.width, walk.span)
