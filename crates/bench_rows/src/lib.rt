@@ -6,8 +6,8 @@ ghost use Rattle.shapes.specs.Limits.{panel as panel_limits};
 ghost use Rattle.route.specs.Answers.{listing_values};
 ghost use Rattle.bench_rows.specs.Drawn.{last_columns, rows_to};
 
-use route::Listed;
 use route::inner::{prepare, row_of};
+use route::{Listed, Prepared};
 use shapes::limits::{CORNER, panel};
 use shapes::refusals::Refusal;
 
@@ -56,12 +56,13 @@ pub extern "C" fn knitbramble_rows_of_joins(
     ensures columns { result ≡ last_columns panel_limits closed coordinates.now width rows.now (length out.old) }
     ensures written { out.new ≡ rows_to panel_limits closed coordinates.now width rows.now out.old }
 {
-    let Ok(route) = prepare(coordinates, width, closed, panel()) else {
+    let Prepared { answer, joins } = prepare(coordinates, width, closed, panel());
+    let Ok(()) = answer else {
         return 0;
     };
     let mut last = Ok(NONE);
     for row in rows {
-        last = row_of(&route, *row, CORNER, out);
+        last = row_of(&joins, *row, CORNER, out);
     }
     columns(last)
 }

@@ -12,7 +12,6 @@ use lib.ListN.{length}
 use Rattle.shapes.specs.declared.limits.Limits.{Limits}
 use Rattle.shapes.specs.Limits.{line_limit, panel, Roomy}
 use Rattle.shapes.specs.declared.refusals.Refusal.{Refusal}
-use Rattle.shapes.specs.declared.refusals.Refusal.TheVariants.{Form, Odd, Points, Width, Coordinate, Doubled, Corner, Row, Column, Room}
 use Rattle.shapes.specs.Refusals.{number_of, bend_of}
 use Rattle.coordinates.specs.Refusal.{route_refusal}
 use Rattle.coordinates.proofs.Laws.{accepted-exactly}
@@ -24,7 +23,7 @@ use Rattle.route_joins.proofs.Bends.{near-all}
 use Rattle.route.specs.declared.Joins.{Joins}
 use Rattle.route.specs.Joined.{Kept, joins_of}
 use Rattle.route.specs.Rows.{no_rows, rows_in, rows_refusal}
-use Rattle.route.specs.Answers.{Prepared, Verdict, ListingValues, draw_refusal, prepared_of, rows_answer, whole_refusal, whole_answer, no_listing, answer_on, list_on, row_answer, row_to}
+use Rattle.route.specs.Answers.{PreparedValues, Verdict, ListingValues, draw_refusal, no_joins, prepared_of, rows_answer, whole_refusal, whole_answer, no_listing, answer_on, list_on, row_answer, row_to}
 use Rattle.route.proofs.Kept.{kept-joins, kept_more}
 use Rattle.route.proofs.Refused.{draw-none, draw-bend}
 
@@ -38,7 +37,7 @@ module _ (limits : Limits) (closed : Bool) (cs : List ℤ) (w : ℤ) where
 
   -- what `prepare` answers where its list or its width is refused
   pub prepared-stopped : (r : Refusal) → number_of r ≡ route_refusal limits.point closed cs w → bend_of r ≡ 0
-      → ◌≡◌ {A = Prepared} (record { refusal = number_of r; bend = bend_of r; joins = (prepared_of limits closed cs w).joins }) (prepared_of limits closed cs w)
+      → ◌≡◌ {A = PreparedValues} (record { refusal = number_of r; bend = bend_of r; joins = no_joins }) (prepared_of limits closed cs w)
   unfolding prepared_of draw_refusal route_bend
   prepared-stopped r e none = rw (← e, none, ne_eqb (number_of r) 0 (number-some r))
 
@@ -56,10 +55,10 @@ module _ (limits : Limits) (closed : Bool) (cs : List ℤ) (w : ℤ) where
     unfolding joins_of
     all_near = rw made (near-all limits.corner closed cs w)
 
-    pub prepared-near : js.near ≡ js.count → ◌≡◌ {A = Prepared} (record { refusal = 0; bend = 0; joins = js }) (prepared_of limits closed cs w)
+    pub prepared-near : js.near ≡ js.count → ◌≡◌ {A = PreparedValues} (record { refusal = 0; bend = 0; joins = js }) (prepared_of limits closed cs w)
     prepared-near e = rw (prepared, all_near.0 e, made)
 
-    pub prepared-far : js.near ≢ js.count → ◌≡◌ {A = Prepared} (record { refusal = 5; bend = js.near; joins = (prepared_of limits closed cs w).joins }) (prepared_of limits closed cs w)
+    pub prepared-far : js.near ≢ js.count → ◌≡◌ {A = PreparedValues} (record { refusal = 5; bend = js.near; joins = js }) (prepared_of limits closed cs w)
     unfolding joins_of
     prepared-far other = rw (prepared, else-false all (λ e. other (all_near.1 e)), made)
 
@@ -69,7 +68,7 @@ module _ (limits : Limits) (closed : Bool) (cs : List ℤ) (w : ℤ) where
     pub joins : js ≡ joins_of limits.corner closed cs w
     pub kept : Kept line_limit js
 
-  pub ready : {r : Prepared} → Roomy limits → r ≡ prepared_of limits closed cs w → r.refusal ≡ 0 → Ready r.joins
+  pub ready : {r : PreparedValues} → Roomy limits → r ≡ prepared_of limits closed cs w → r.refusal ≡ 0 → Ready r.joins
   unfolding prepared_of
   ready {r} roomy e none =
       let draw = sym (ap (λ p. p.refusal) e) ∙ none in
@@ -77,11 +76,11 @@ module _ (limits : Limits) (closed : Bool) (cs : List ℤ) (w : ℤ) where
       let joins : r.joins ≡ joins_of limits.corner closed cs w = ap (λ p. p.joins) e ∙ rw (eq-eqb (route_refusal limits.point closed cs w) 0 taken) in
       record { draw = draw; joins = joins; kept = rw joins (kept_more (kept-route draw) roomy.corner_room) }
 
-  pub refused-with : {r : Prepared} → r ≡ prepared_of limits closed cs w → draw_refusal limits closed cs w ≡ r.refusal
+  pub refused-with : {r : PreparedValues} → r ≡ prepared_of limits closed cs w → draw_refusal limits closed cs w ≡ r.refusal
   unfolding prepared_of
   refused-with e = sym (ap (λ p. p.refusal) e)
 
-  pub named-with : {r : Prepared} → r ≡ prepared_of limits closed cs w → route_bend limits closed cs w ≡ r.bend
+  pub named-with : {r : PreparedValues} → r ≡ prepared_of limits closed cs w → route_bend limits closed cs w ≡ r.bend
   unfolding prepared_of
   named-with e = sym (ap (λ p. p.bend) e)
 

@@ -11,6 +11,7 @@ use Rattle.board.specs.Boards.{ListedValues, told, told_to}
 use Rattle.coordinates.specs.Refusal.{route_refusal}
 use Rattle.route_joins.specs.Joins.{are_joins_near, route_bend}
 use Rattle.route.specs.declared.Joins.{Joins}
+use Rattle.route.specs.declared.Prepared.{Prepared}
 use Rattle.route.specs.Joined.{no_join, joins_of}
 use Rattle.route.specs.Rows.{RowRange, board_on, no_rows, rows_in, rows_refusal}
 
@@ -23,12 +24,12 @@ unfoldable pub no_joins : Joins
 no_joins = record { closed = false; count = 0; near = 0; joins = replicate route_points no_join }
 
 -- a route's joins, or its refusal, with the position that comes with 5
-pub record Prepared : Type 0 where
+pub record PreparedValues : Type 0 where
   pub refusal : ℕ
   pub bend : ℕ
   pub joins : Joins
 
-unfoldable pub prepared_of : Limits → Bool → List ℤ → ℤ → Prepared
+unfoldable pub prepared_of : Limits → Bool → List ℤ → ℤ → PreparedValues
 prepared_of limits closed cs w =
     record {
       refusal = draw_refusal limits closed cs w;
@@ -36,10 +37,9 @@ prepared_of limits closed cs w =
       joins = cond (eqb (route_refusal limits.point closed cs w) 0) (joins_of limits.corner closed cs w) no_joins;
     }
 
--- what `prepare` answers; `joins` are the paper's where it refuses
-abbrev pub prepared_values : Result Joins Refusal → Joins → Prepared
-prepared_values (Ok route) joins = record { refusal = 0; bend = 0; joins = route }
-prepared_values (Err r) joins = record { refusal = number_of r; bend = bend_of r; joins = joins }
+-- what `prepare` answers
+abbrev pub prepared_values : Prepared → PreparedValues
+prepared_values p = record { refusal = refusal_in p.answer; bend = bend_in p.answer; joins = p.joins }
 
 -- ---- the rows of a route
 

@@ -5,13 +5,14 @@ use Rattle.whole.specs.Number.{Within}
 use Rattle.whole.specs.Places.{list_from}
 use Rattle.shapes.specs.declared.Span.{Span}
 use Rattle.shapes.specs.declared.refusals.Refusal.{Refusal}
-use Rattle.shapes.specs.Refusals.{or_else, number_of, bend_of}
+use Rattle.shapes.specs.Refusals.{room_refused, or_else, number_of, bend_of}
 use Rattle.thick_segment.specs.declared.Rows.{Rows}
 use Rattle.thick_segment.specs.Segments.{span_on}
 use Rattle.thick_segment.specs.Rows.{rows_from, around, drawn_rows}
 use Rattle.board.specs.declared.Board.{Board}
 use Rattle.board.specs.Boards.{Answer, board_of, answer_of, added}
 use Rattle.route.specs.declared.Joins.{Joins}
+use Rattle.route.specs.declared.Full.{Full}
 use Rattle.route.specs.Joined.{segments_in, segment_in}
 
 -- ---- the board of a row
@@ -27,10 +28,10 @@ span_in route row k = span_on (segment_in route k) row
 unfoldable pub board_on : Joins → ℤ → Answer
 board_on route row = offer_all (board_of row []) (list_from (span_in route row) 0 (segments_in route))
 
--- what drawing it answers; `board` is the paper's where there is no room
-abbrev pub board_values : Result Board Refusal → Board → Answer
-board_values (Ok b) board = answer_of 0 b
-board_values (Err r) board = answer_of (number_of r) board
+-- what drawing it answers: the board, or with 8 that before the first span that there is no room for
+abbrev pub board_values : Result Board Full → Answer
+board_values (Ok b) = answer_of 0 b
+board_values (Err full) = answer_of room_refused full.board
 
 -- ---- the rows
 

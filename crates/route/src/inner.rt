@@ -8,9 +8,9 @@ ghost use Rattle.coordinates.specs.Points.{point_count};
 ghost use Rattle.coordinates.specs.Refusal.{AllWithin};
 ghost use Rattle.route.specs.Joined.{no_join, Kept, joins_of, segments_in, segment_in};
 ghost use Rattle.route.specs.Rows.{board_on, board_values, range_of, range_values, with_rows, rows_in, RowsNear, row_count, row_at, rows_refusal};
-ghost use Rattle.route.specs.Answers.{prepared_of, prepared_values, answer_on, list_on, listing_values};
+ghost use Rattle.route.specs.Answers.{no_joins, prepared_of, prepared_values, answer_on, list_on, listing_values};
 
-use crate::Joins;
+use crate::{Full, Joins, Prepared};
 use board::inner::{empty_board, list_sound, offer_sound};
 use board::{Board, Listed};
 use coordinates::inner::{check, segments_of};
@@ -41,6 +41,18 @@ fn no_join() -> Join
         starting: corners,
         origins: no_crossings(),
         position: 0,
+    }
+}
+
+/// The joins of no route.
+fn no_joins() -> Joins
+    ensures { result ≡ no_joins }
+{
+    Joins {
+        closed: false,
+        count: 0,
+        near: 0,
+        joins: [no_join(); ROUTE_POINTS],
     }
 }
 
@@ -80,22 +92,24 @@ pub fn joins_of(coordinates: &[i64], width: i64, closed: bool, limit: u32) -> Jo
     }
 }
 
-/// The joins of a route, for the entries: every one of them begins so. Refused with 1 to 4, 12 or 5.
-pub fn prepare(
-    coordinates: &[i64],
-    width: i64,
-    closed: bool,
-    limits: Limits,
-) -> Result<Joins, Refusal>
+/// The joins of a route, for the entries: every one of them begins so. Refused with 1 to 4, 12 or 5; with 5 come the joins.
+pub fn prepare(coordinates: &[i64], width: i64, closed: bool, limits: Limits) -> Prepared
     requires { Roomy limits }
-    ensures { prepared_values result (prepared_of limits closed coordinates.now width).joins ≡ prepared_of limits closed coordinates.now width }
+    ensures { prepared_values result ≡ prepared_of limits closed coordinates.now width }
 {
-    check(coordinates, width, closed, limits.point)?;
-    let joins = joins_of(coordinates, width, closed, limits.corner);
-    if joins.near != joins.count {
-        return Err(Refusal::Corner(joins.near));
+    if let Err(refusal) = check(coordinates, width, closed, limits.point) {
+        return Prepared {
+            answer: Err(refusal),
+            joins: no_joins(),
+        };
     }
-    Ok(joins)
+    let joins = joins_of(coordinates, width, closed, limits.corner);
+    let answer = if joins.near == joins.count {
+        Ok(())
+    } else {
+        Err(Refusal::Corner(joins.near))
+    };
+    Prepared { answer, joins }
 }
 
 /// The segment from the join at place `i` to the next.
@@ -111,17 +125,18 @@ fn segment(route: &Joins, i: usize) -> Segment
 }
 
 /// The board of a row: the spans of the segments, offered in their order to a fresh board. Refused with 8 at the first span that it
-/// has no room for.
-pub fn row_board(route: &Joins, row: i64) -> Result<Board, Refusal>
+/// has no room for, and the board before that comes with it.
+pub fn row_board(route: &Joins, row: i64) -> Result<Board, Full>
     requires { Kept line_limit route.now }
-    ensures value { board_values result (board_on route.now row).board ≡ board_on route.now row }
-    ensures bend { bend_in result ≡ 0 }
+    ensures { board_values result ≡ board_on route.now row }
 {
     let mut board = empty_board(row);
     for k in 0..segments_of(route.count, route.closed) {
         let lit = span(segment(route, k), row);
         if !is_empty(lit) {
-            offer_sound(&mut board, lit)?;
+            let Ok(()) = offer_sound(&mut board, lit) else {
+                return Err(Full { board });
+            };
         }
     }
     Ok(board)
@@ -165,12 +180,15 @@ pub fn rows_of(route: &Joins) -> Option<Rows>
     rows
 }
 
-/// How many rows there are.
-pub fn row_count(rows: Rows) -> usize
-    requires { RowsNear line_limit (range_of rows) }
-    ensures { result ≡ row_count (range_of rows) }
+/// How many rows there are; none where the route has none.
+pub fn row_count(rows: Option<Rows>) -> usize
+    requires { RowsNear line_limit (range_values rows) }
+    ensures { result ≡ row_count (range_values rows) }
 {
-    (rows.last - rows.first + 1) as usize
+    match rows {
+        Some(rows) => (rows.last - rows.first + 1) as usize,
+        None => 0,
+    }
 }
 
 /// The row at place `i`, from the first on.
@@ -192,7 +210,7 @@ pub fn check_rows(route: &Joins, rows: Option<Rows>) -> Result<(), Refusal>
     let Some(rows) = rows else {
         return Ok(());
     };
-    for i in 0..row_count(rows) {
+    for i in 0..row_count(Some(rows)) {
         row_board(route, row_at(rows, i))?;
     }
     Ok(())

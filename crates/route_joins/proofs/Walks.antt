@@ -73,9 +73,14 @@ at_zero = record { x = pos 0; y = pos 0 }
 abbrev zeros : JoinValues
 zeros = record { refusal = 0; bend = 0; kind = 0; ending = record { left = at_zero; right = at_zero }; starting = record { left = at_zero; right = at_zero }; origins = no_crossings; position = 0 }
 
-pub refused-zeros : (r : Refusal) → step_values (Err r) ≡ record { refusal = number_of r; bend = bend_of r; found = 0; start = zeros; end = zeros }
-unfolding step_values refused_values
-refused-zeros r = refl
+pub refused-zeros : (n b : ℕ) → refused_values n b ≡ record { refusal = n; bend = b; found = 0; start = zeros; end = zeros }
+unfolding refused_values
+refused-zeros n b = refl
+
+-- as a step answers it
+pub refused-step-zeros : (r : Refusal) → step_values (Err r) ≡ record { refusal = number_of r; bend = bend_of r; found = 0; start = zeros; end = zeros }
+unfolding step_values
+refused-step-zeros r = refused-zeros (number_of r) (bend_of r)
 
 -- where an answer leaves the walk: where no segment is answered, it stays
 pub place_kept : (v : StepValues) (place : ℕ) → v.found ≢ 1 → place_from v place ≡ place

@@ -11,7 +11,7 @@ ghost use Rattle.row_text.specs.Pixels.{lit_on, lit_in, route_pixels, entry_pixe
 use board::inner::{runs_of, total_of};
 use board::{Board, Run};
 use route::inner::{check_rows, prepare, row_at, row_board, row_count, rows_of};
-use route::{Joins, Rows};
+use route::{Joins, Prepared, Rows};
 use route_file::inner::count_of;
 use shapes::limits::Limits;
 use shapes::refusals::Refusal;
@@ -58,7 +58,7 @@ fn print_rows(k: usize, route: &Joins, rows: Option<Rows>) -> i64
         return 0;
     };
     let mut total = 0;
-    for i in 0..row_count(rows) {
+    for i in 0..row_count(Some(rows)) {
         let row = row_at(rows, i);
         total += print_row(k, route, row);
     }
@@ -88,19 +88,17 @@ fn print_route(k: usize, coordinates: &[i64], width: i64, closed: bool, limits: 
     requires { Roomy limits }
     ensures { result ≡ route_pixels limits closed coordinates.now width }
 {
-    let route = match prepare(coordinates, width, closed, limits) {
-        Ok(route) => route,
-        Err(refusal) => {
-            print_refused(k, coordinates, width, closed, limits, refusal);
-            return 0;
-        }
-    };
-    let rows = rows_of(&route);
-    if let Err(refusal) = check_rows(&route, rows) {
+    let Prepared { answer, joins } = prepare(coordinates, width, closed, limits);
+    if let Err(refusal) = answer {
         print_refused(k, coordinates, width, closed, limits, refusal);
         return 0;
     }
-    print_rows(k, &route, rows)
+    let rows = rows_of(&joins);
+    if let Err(refusal) = check_rows(&joins, rows) {
+        print_refused(k, coordinates, width, closed, limits, refusal);
+        return 0;
+    }
+    print_rows(k, &joins, rows)
 }
 
 /// Prints the lines of the route that stands at place `k` of a file, and answers the pixels of its runs.

@@ -21,10 +21,12 @@ use shapes::refusals::Refusal;
 use shapes::{Line, Offset, Point, Side, Span};
 use std::{fmt, io};
 use test_joins::Told;
-use test_text::Numbers;
+use test_text::{Numbers, Untold};
 use thick_segment::{Segment, drawn_rows, edges_bounding_box, is_skeleton};
+use writing::say_refused;
 
 fn main(rt: HostRuntime) -> io::Result<()> {
+    let rt = Untold(&rt);
     ask_miters(&rt)?;
     ask_widths(&rt)?;
     ask_coordinates(&rt)?;
@@ -156,26 +158,37 @@ fn ask_bends(rt: &impl Print) -> io::Result<()> {
 fn ask_far(rt: &impl Print, coordinates: &[i64], closed: bool) -> io::Result<()> {
     let form = if closed { "closed" } else { "open" };
     print!(rt; "corners within 45, {form}{}: ", Numbers(coordinates))?;
-    print!(rt; "{}; ", whole_answer(coordinates, closed))?;
-    print!(rt; "{}", step_answer(coordinates, closed, 0))?;
+    say_whole(rt, coordinates, closed)?;
+    print!(rt; "; ")?;
+    say_step(rt, coordinates, closed, 0)?;
     for place in 1..4 {
-        print!(rt; ", {}", step_answer(coordinates, closed, place))?;
+        print!(rt; ", ")?;
+        say_step(rt, coordinates, closed, place)?;
     }
     println!(rt)
 }
 
 /// Whether a route is accepted as a whole.
-fn whole_answer(coordinates: &[i64], closed: bool) -> Answer<&'static str> {
-    Answer(prepare(coordinates, 5, closed, small()).map(|_| "accepted"))
+fn say_whole(rt: &impl Print, coordinates: &[i64], closed: bool) -> io::Result<()> {
+    match prepare(coordinates, 5, closed, small()).answer {
+        Ok(()) => print!(rt; "accepted"),
+        Err(refusal) => say_refusal(refusal),
+    }
 }
 
 /// What a walk answers at a place.
-fn step_answer(coordinates: &[i64], closed: bool, place: usize) -> Answer<&'static str> {
+fn say_step(rt: &impl Print, coordinates: &[i64], closed: bool, place: usize) -> io::Result<()> {
     match step_at(coordinates, 5, closed, Offset::None, place, small()).step {
-        Ok(Some(_)) => Answer(Ok("segment")),
-        Ok(None) => Answer(Ok("end")),
-        Err(refusal) => Answer(Err(refusal)),
+        Ok(Some(_)) => print!(rt; "segment"),
+        Ok(None) => print!(rt; "end"),
+        Err(refusal) => say_refusal(refusal),
     }
+}
+
+/// Writes a refusal as `rows` writes it, which tells of no error.
+fn say_refusal(refusal: Refusal) -> io::Result<()> {
+    say_refused(refusal);
+    Ok(())
 }
 
 /// The limits of a panel, but for corners, which may go no farther than 45.

@@ -12,7 +12,7 @@ use route_joins::{Step, Stepped};
 use shapes::Offset;
 use std::{fmt, io};
 use test_joins::Crossings;
-use test_text::Numbers;
+use test_text::{Numbers, Untold};
 use thick_segment::Segment;
 
 // Shows a segment, and offers its span on the board's row to the board.
@@ -167,6 +167,7 @@ fn refused_walks(
 }
 
 fn main(rt: HostRuntime) -> io::Result<()> {
+    let rt = Untold(&rt);
     let zigzag = [0i64, 0, 10, 40, 20, 0, 30, 40, 40, 0, 50, 40];
     open_route(&rt, &zigzag[..10], 3, 20)?;
     open_route(&rt, &zigzag[..10], 7, 3)?;

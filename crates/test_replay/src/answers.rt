@@ -2,7 +2,25 @@
 use scanline::inner::new_span;
 use shapes::Span;
 use shapes::refusals::Refusal;
-use std::fmt;
+use std::{fmt, io};
+use writing::say_refused;
+
+/// Writes what an entry answers: the value, or the refusal in its place.
+pub fn say_answer<T: fmt::Display + Copy>(
+    rt: &impl Print,
+    answer: Result<T, Refusal>,
+) -> io::Result<()> {
+    match answer {
+        Ok(value) => print!(rt; "{value}"),
+        Err(refusal) => say_refusal(refusal),
+    }
+}
+
+/// Writes a refusal as `rows` writes it, which tells of no error.
+pub fn say_refusal(refusal: Refusal) -> io::Result<()> {
+    say_refused(refusal);
+    Ok(())
+}
 
 /// What an entry answers: the value, or the refusal in its place.
 #[derive(Clone, Copy)]

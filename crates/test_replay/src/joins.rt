@@ -1,5 +1,5 @@
 //! Questions on joins.
-use crate::answers::{Answer, Bend};
+use crate::answers::{Answer, Bend, say_answer, say_refusal};
 use line_join::{
     Caps, Join, end, end_cap_lines, filler_line, from_points, is_degenerate, start, start_cap_lines,
 };
@@ -45,14 +45,14 @@ fn answer_points(rt: &impl Print, questions: &[u8], at: usize) -> io::Result<()>
 }
 
 fn say_joined(rt: &impl Print, answer: Result<Join, Refusal>) -> io::Result<()> {
-    print!(rt; "{}", Answer(answer.map(Told)))
+    say_answer(rt, answer.map(Told))
 }
 
 /// The filler line, the lines of both caps, and whether the join is degenerate.
 fn say_lines(rt: &impl Print, join: Join) -> io::Result<()> {
     match is_degenerate(join) {
         Ok(degenerate) => print!(rt; "{} | {degenerate}", Filled(join)),
-        Err(refusal) => print!(rt; "{refusal}"),
+        Err(refusal) => say_refusal(refusal),
     }
 }
 

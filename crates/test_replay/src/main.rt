@@ -17,9 +17,10 @@ mod walks; // walks.rt: walks along a route, and its merged spans
 use std::fs::File;
 use std::io::{Read, Result};
 use test_numbers::byte_at;
-use test_text::room;
+use test_text::{Untold, room};
 
 fn main(rt: HostRuntime) -> Result<()> {
+    let out = Untold(&rt);
     for name in [
         "crossings",
         "strokes",
@@ -28,9 +29,9 @@ fn main(rt: HostRuntime) -> Result<()> {
         "walks",
         "fields",
     ] {
-        answer_list::<524288, _>(&rt, name, |questions| answer_all(&rt, questions))?;
+        answer_list::<524288, _>(&rt, name, |questions| answer_all(&out, questions))?;
     }
-    answer_list::<65536, _>(&rt, "boards", |events| boards::replay(&rt, events))
+    answer_list::<65536, _>(&rt, "boards", |events| boards::replay(&out, events))
 }
 
 /// Answers the list of a file, of which the first `N` bytes are kept.

@@ -1,5 +1,5 @@
 //! Questions on segments between two joins, and on spans of a row.
-use crate::answers::{Answer, Bend, Columns, Found, Number};
+use crate::answers::{Answer, Bend, Columns, Found, Number, say_answer, say_refusal};
 use scanline::{meet, try_extend, try_take};
 use shapes::Span;
 use shapes::refusals::Refusal;
@@ -48,7 +48,7 @@ fn answer_extend(rt: &impl Print, questions: &[u8], at: usize) -> io::Result<()>
     let mut span = first.value;
     match try_extend(&mut span, second.value) {
         Ok(joined) => print!(rt; "{joined} {}", Columns(span)),
-        Err(refusal) => print!(rt; "{refusal}"),
+        Err(refusal) => say_refusal(refusal),
     }
 }
 
@@ -98,7 +98,7 @@ fn say_segment(rt: &impl Print, segment: Segment) -> io::Result<()> {
             print!(rt; "{skeleton} | {edges} | {pixels} | ")?;
             say_perimeter(rt, segment)
         }
-        Err(refusal) => print!(rt; "{refusal}"),
+        Err(refusal) => say_refusal(refusal),
     }
 }
 
@@ -116,13 +116,13 @@ fn say_perimeter(rt: &impl Print, segment: Segment) -> io::Result<()> {
 fn say_drawn_rows(rt: &impl Print, segment: Segment) -> io::Result<()> {
     match drawn_rows(segment) {
         Ok(rows) => print!(rt; "{} {}", rows.first, rows.last),
-        Err(refusal) => print!(rt; "{refusal}"),
+        Err(refusal) => say_refusal(refusal),
     }
 }
 
 /// A span's columns, or the refusal in their place.
 fn say_span(rt: &impl Print, answer: Result<Span, Refusal>) -> io::Result<()> {
-    print!(rt; "{}", Answer(answer.map(Columns)))
+    say_answer(rt, answer.map(Columns))
 }
 
 /// What each entry refuses a segment and a row with, and the bend that it names.

@@ -1,5 +1,5 @@
 //! Questions on walks along a route, and on its merged spans.
-use crate::answers::{Bend, Columns, Found, Number};
+use crate::answers::{Bend, Columns, Found, Number, say_refusal};
 use crate::rows::say_rows;
 use closed_thick_segment_iter::Walk as ClosedWalk;
 use route_joins::{Stepped, Walk};
@@ -102,13 +102,13 @@ fn say_walk<W: Copy, T: fmt::Display + Copy, N: Fn(&mut W) -> Result<Option<T>, 
 {
     let mut walk = match begun {
         Ok(walk) => walk,
-        Err(refusal) => return print!(rt; "{refusal}"),
+        Err(refusal) => return say_refusal(refusal),
     };
     for _ in 0..300 {
         match next(&mut walk) {
             Ok(Some(found)) => print!(rt; "{found}")?,
             Ok(None) => return print!(rt; "end"),
-            Err(refusal) => return print!(rt; "{refusal}"),
+            Err(refusal) => return say_refusal(refusal),
         }
     }
     Ok(())

@@ -4,9 +4,12 @@
 ghost use Rattle.std.specs.Prelude.{◌≡◌, ◌≤◌, ◌<◌, length, All, IfSome};
 ghost use Rattle.test_text.specs.Questions.{next_place, point_at, line_at, offset_at};
 
+mod untold; // untold.rt: output of which no error is told
+
 use shapes::{Line, Offset, Point};
 use std::fmt;
 use test_numbers::{Read, byte_at, number_at};
+pub use untold::Untold;
 
 /// The place after a byte, in a text of less than four million bytes; there the place stays.
 #[tactic(auto, unfolding(crate::specs::Questions::next_place))]

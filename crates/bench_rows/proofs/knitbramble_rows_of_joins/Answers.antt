@@ -9,19 +9,19 @@ use Rattle.bench_rows.proofs.knitbramble_rows_of_joins.Goals as goal
 
 pub returns-in_default-clause-columns : goal.returns-in_default-clause-columns
 returns-in_default-clause-columns c =
-    let e = rw (c.panel.ensures, to_z-of_z c.ranges.width) at c.in_default.ensures in
+    let e = rw (c.panel.ensures, to_z-of_z c.ranges.width, c.in_default.is) at c.prepare-answer.ensures in
     sym (nothing-drawn panel _ _ _ (refused-with _ _ _ _ e) (number-some _) c.args.rows.now c.args.out.now).0
 
 pub returns-in_default-clause-written : goal.returns-in_default-clause-written
 returns-in_default-clause-written c =
-    let e = rw (c.panel.ensures, to_z-of_z c.ranges.width) at c.in_default.ensures in
+    let e = rw (c.panel.ensures, to_z-of_z c.ranges.width, c.in_default.is) at c.prepare-answer.ensures in
     sym (nothing-drawn panel _ _ _ (refused-with _ _ _ _ e) (number-some _) c.args.rows.now c.args.out.now).1
 
 pub loop-row-init : goal.loop-row-init
 loop-row-init c = let a = c.args in record { long = refl; left = left-all panel a.closed a.coordinates.now (to_z w64 (of_z w64 a.width)) a.rows.now a.out.now refl }
 
 pub row_of-last-requires-clause-kept : goal.row_of-last-requires-clause-kept
-row_of-last-requires-clause-kept c = (ready _ _ _ _ panel-roomy (rw c.panel.ensures at c.in-Ok.ensures) refl).kept
+row_of-last-requires-clause-kept c = (ready _ _ _ _ panel-roomy (rw c.panel.ensures at c.prepare-answer.ensures) (rw c.in-Ok.is)).kept
 
 pub loop-row-preserved : goal.loop-row-preserved
 loop-row-preserved c =
@@ -29,7 +29,7 @@ loop-row-preserved c =
     let l = c.loop-row in
     let y = get_or a.rows.now l.row-index (pos 0) in
     let row = to_z-of_z {w = w64} {z = y} (search rules) in
-    let free = ready panel a.closed a.coordinates.now (to_z w64 (of_z w64 a.width)) panel-roomy (rw c.panel.ensures at c.in-Ok.ensures) refl in
+    let free = ready panel a.closed a.coordinates.now (to_z w64 (of_z w64 a.width)) panel-roomy (rw c.panel.ensures at c.prepare-answer.ensures) (rw c.in-Ok.is) in
     record {
       long = search rules;
       left =

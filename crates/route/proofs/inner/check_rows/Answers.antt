@@ -7,6 +7,7 @@ use Rattle.shapes.specs.Refusals.{or_else}
 use Rattle.shapes.proofs.Choices.{or-free, or-stopped}
 use Rattle.route.specs.declared.Joins.{Joins}
 use Rattle.route.specs.Rows.{RowRange, range_of, board_on, row_count, first_of, room_at, rows_refusal}
+use Rattle.shapes.specs.declared.refusals.Refusal.TheVariants.{Room}
 use Rattle.shapes.proofs.Numbers.{number-some}
 use Rattle.route.proofs.inner.check_rows.Goals as goal
 
@@ -34,13 +35,13 @@ pub returns-in_err-row_board-clause-number : goal.returns-in_err-row_board-claus
 returns-in_err-row_board-clause-number c =
     let p = err_from_is_err_and c.from_residual.result c.from_residual.ensures.1 in
     let at = to_z-of_z {w = w64} {z = c.row_at.result} (search rules) ∙ c.row_at.ensures in
-    let is = ap (λ a. a.refusal) c.in_err-row_board.ensures.value ∙ ap (λ y. (board_on c.args.route.now y).refusal) at in
-    rw (p.1, p.2, c.in-Some.is) (stops c.args.route.now (range_of c.in-Some.rows) c.loop-i.i (omega arith) c.loop-i.invariant (number-some _) is)
+    let is = ap (λ a. a.refusal) c.in_err-row_board.ensures ∙ ap (λ y. (board_on c.args.route.now y).refusal) at in
+    rw (p.1, p.2, c.in-Some.is) (stops c.args.route.now (range_of c.in-Some.rows) c.loop-i.i (omega arith) c.loop-i.invariant (number-some Room) is)
 
 pub loop-i-preserved : goal.loop-i-preserved
 loop-i-preserved c =
     let at = to_z-of_z {w = w64} {z = c.row_at.result} (search rules) ∙ c.row_at.ensures in
-    let is = ap (λ a. a.refusal) c.in_ok-row_board.ensures.value ∙ ap (λ y. (board_on c.args.route.now y).refusal) at in
+    let is = ap (λ a. a.refusal) c.in_ok-row_board.ensures ∙ ap (λ y. (board_on c.args.route.now y).refusal) at in
     goes c.args.route.now (range_of c.in-Some.rows) c.loop-i.i (omega arith) c.loop-i.invariant is
 
 pub returns-clause-number : goal.returns-clause-number

@@ -2,12 +2,11 @@ use Rattle.std.proofs.Common.{◌≡◌, ℕ, ℤ, ◌-◌, ◌+◌, ◌≤◌, 
 use mathlib.Core.Logic.{⊎_elim}
 use lib.Dec.{lit≤}
 use mir.Facts.{to_z-of_z}
-use Rattle.std.proofs.lemmas.Result.{err_from_is_err_and}
 use Rattle.whole.specs.Places.{list_from}
 use Rattle.whole.proofs.Places.{list-end, list-next}
 use Rattle.shapes.specs.declared.Span.{Span}
 use Rattle.shapes.specs.declared.refusals.Refusal.{Refusal}
-use Rattle.shapes.specs.Refusals.{number_of, bend_of}
+use Rattle.shapes.specs.Refusals.{number_of, room_refused}
 use Rattle.shapes.specs.Limits.{board_runs}
 use Rattle.shapes.specs.Spans.{is_empty}
 use Rattle.board.specs.declared.Board.{Board}
@@ -18,9 +17,9 @@ use Rattle.route.specs.Rows.{span_in, offer_all, board_on}
 use Rattle.board_laws.proofs.Offers.{added-either}
 use Rattle.route.proofs.Kept.{segment-near}
 use Rattle.route.proofs.Offers.{added-few, offer-none, offer-on, offer-stop, offer-empty}
-use Rattle.shapes.proofs.Numbers.{number-some, unbent}
+use Rattle.shapes.proofs.Numbers.{number-some}
 use Rattle.route.proofs.inner.row_board.Goals as goal
-use Rattle.route.proofs.inner.row_board.Goals.{then-not-is_empty+in_ok-offer_sound, else-not-is_empty}
+use Rattle.route.proofs.inner.row_board.Goals.{then-not-is_empty+in-Ok, else-not-is_empty}
 
 -- the board so far; the spans that are left, offered to it, give what all give
 record Goes (rest : List Span) (all : Answer) (b : Board) : Type 0 where
@@ -37,15 +36,13 @@ module _ (b : Board) (s : Span) (rest : List Span) (all : Answer) (held : Goes (
       let is : c ≡ (added b s).board = ap (λ a. a.board) e in
       rw is (record { few = added-few b s held.few; on = sym (offer-on b s rest (sym (ap (λ a. a.refusal) e))) ∙ held.on })
 
-  stopped : (c : Board) (r : Refusal) → answer_of (number_of r) c ≡ added b s → answer_of (number_of r) all.board ≡ all
-  stopped c r e =
-      let is : all ≡ answer_of (number_of r) c = sym held.on ∙ offer-stop b s rest (λ z. number-some r (ap (λ a. a.refusal) e ∙ z)) ∙ sym e in
-      rw is
-
   -- the span is refused with 8
-  no-position : (c : Board) (r : Refusal) → answer_of (number_of r) c ≡ added b s → bend_of r ≡ 0
-  no-position c r e =
-      unbent r (λ five. ⊎_elim (λ z. omega (arith, z, five, ap (λ a. a.refusal) e)) (λ z. omega (arith, ap (λ a. a.refusal) z, five, ap (λ a. a.refusal) e)) (added-either b s))
+  full : (c : Board) (r : Refusal) → answer_of (number_of r) c ≡ added b s → number_of r ≡ room_refused
+  full c r e = ⊎_elim (λ z. absurd (number-some r (ap (λ a. a.refusal) e ∙ z))) (λ z. ap (λ a. a.refusal) e ∙ ap (λ a. a.refusal) z) (added-either b s)
+
+  stopped : (c : Board) (r : Refusal) → answer_of (number_of r) c ≡ added b s → answer_of room_refused c ≡ all
+  stopped c r e =
+      ap (λ n. answer_of n c) (sym (full c r e)) ∙ e ∙ sym (offer-stop b s rest (λ z. number-some r (ap (λ a. a.refusal) e ∙ z))) ∙ held.on
 
 -- the spans that are left begin with that of the place
 begun : (route : Joins) (row : ℤ) (k : ℕ) (b : Board) → k < segments_in route → b.count ≤ board_runs
@@ -62,26 +59,18 @@ loop-k-init c =
 pub span-lit-requires : goal.span-lit-requires
 span-lit-requires c = rw c.segment.ensures (segment-near c.requires (omega arith))
 
-pub returns-in_err-offer_sound-clause-value : goal.returns-in_err-offer_sound-clause-value
-returns-in_err-offer_sound-clause-value c =
-    let p = err_from_is_err_and c.from_residual.result c.from_residual.ensures.1 in
+pub returns-in_default : goal.returns-in_default
+returns-in_default c =
     let held = begun c.args.route.now (to_z w64 (of_z w64 c.args.row)) c.loop-k.k c.loop-k.board (omega arith) c.loop-k.invariant.few c.loop-k.invariant.on in
-    let e = rw (c.span-lit.ensures, c.segment.ensures) at c.in_err-offer_sound.ensures in
-    rw (p.1, p.2) (rw (to_z-of_z c.ranges.row) at (stopped _ _ _ _ held _ _ e))
-
-pub returns-in_err-offer_sound-clause-bend : goal.returns-in_err-offer_sound-clause-bend
-returns-in_err-offer_sound-clause-bend c =
-    let p = err_from_is_err_and c.from_residual.result c.from_residual.ensures.1 in
-    let held = begun c.args.route.now (to_z w64 (of_z w64 c.args.row)) c.loop-k.k c.loop-k.board (omega arith) c.loop-k.invariant.few c.loop-k.invariant.on in
-    let e = rw (c.span-lit.ensures, c.segment.ensures) at c.in_err-offer_sound.ensures in
-    rw (p.1, p.2) (no-position _ _ _ _ held _ _ e)
+    let e = rw (c.span-lit.ensures, c.segment.ensures) at c.in_default.ensures in
+    rw (to_z-of_z c.ranges.row) at (stopped _ _ _ _ held _ _ e)
 
 pub loop-k-preserved : goal.loop-k-preserved
 loop-k-preserved c =
     let held = begun c.args.route.now (to_z w64 (of_z w64 c.args.row)) c.loop-k.k c.loop-k.board (omega arith) c.loop-k.invariant.few c.loop-k.invariant.on in
     elim c.if-not-is_empty.branch [
-      | then-not-is_empty+in_ok-offer_sound w ↦
-          let e = rw (c.span-lit.ensures, c.segment.ensures) at w.in_ok-offer_sound.ensures in
+      | then-not-is_empty+in-Ok w ↦
+          let e = rw (c.span-lit.ensures, c.segment.ensures) at w.in-Ok.ensures in
           let g = taken _ _ _ _ held _ e in
           rw w.board-is (record { few = g.few; on = g.on })
       | else-not-is_empty w ↦
@@ -90,8 +79,8 @@ loop-k-preserved c =
           rw w.board-is (record { few = g.few; on = g.on })
     ]
 
-pub returns-clause-value : goal.returns-clause-value
-returns-clause-value c =
+pub returns : goal.returns
+returns c =
     let lit-at = span_in c.args.route.now (to_z w64 (of_z w64 c.args.row)) in
     sym (ap (offer_all c.loop-k.board) (list-end lit-at (segments_in c.args.route.now) c.loop-k.k (omega arith)) ∙ offer-none c.loop-k.board) ∙ c.loop-k.invariant.on
     ∙ ap (board_on c.args.route.now) (to_z-of_z c.ranges.row)

@@ -8,16 +8,16 @@ use Rattle.row_text.proofs.inner.print_row.Goals as goal
 
 pub print_runs-requires : goal.print_runs-requires
 print_runs-requires c =
-    let e = rw (c.unwrap-board.ensures, to_z-of_z c.ranges.row) at c.row_board.ensures.value in
+    let e = rw (c.unwrap-board.ensures, to_z-of_z c.ranges.row) at c.row_board.ensures in
     rw (ap (λ a. a.board) e) (drawn-sound c.requires.kept c.requires.within).few
 
 pub total_of-requires : goal.total_of-requires
 total_of-requires c =
-    let e = rw (c.unwrap-board.ensures, to_z-of_z c.ranges.row) at c.row_board.ensures.value in
+    let e = rw (c.unwrap-board.ensures, to_z-of_z c.ranges.row) at c.row_board.ensures in
     rw (ap (λ a. a.board) e) (drawn-sound c.requires.kept c.requires.within)
 
 pub returns : goal.returns
 unfolding lit_on
 returns c =
-    let e = rw (c.unwrap-board.ensures, to_z-of_z c.ranges.row) at c.row_board.ensures.value in
+    let e = rw (c.unwrap-board.ensures, to_z-of_z c.ranges.row) at c.row_board.ensures in
     to_z-of_z {w = w64} {z = c.total_of.result} (search rules) ∙ c.total_of.ensures ∙ ap (λ a. total (live a.board)) e
