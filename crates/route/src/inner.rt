@@ -104,11 +104,13 @@ pub fn prepare(coordinates: &[i64], width: i64, closed: bool, limits: Limits) ->
         };
     }
     let joins = joins_of(coordinates, width, closed, limits.corner);
-    let answer = if joins.near == joins.count {
-        Ok(())
-    } else {
-        Err(Refusal::Corner(joins.near))
-    };
+    if joins.near == joins.count {
+        return Prepared {
+            answer: Ok(()),
+            joins,
+        };
+    }
+    let answer = Err(Refusal::Corner(joins.near));
     Prepared { answer, joins }
 }
 

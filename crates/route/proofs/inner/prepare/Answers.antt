@@ -24,7 +24,7 @@ returns-then-joins c =
     let w = to_z-of_z c.ranges.width in
     prepared-near _ _ _ _ (sym (rw w at c.in_default.ensures.number)) (rw w at c.joins_of-joins.ensures) c.if-joins.true
 
-pub returns-else-joins : goal.returns-else-joins
-returns-else-joins c =
+pub returns : goal.returns
+returns c =
     let w = to_z-of_z c.ranges.width in
     prepared-far _ _ _ _ (sym (rw w at c.in_default.ensures.number)) (rw w at c.joins_of-joins.ensures) c.if-joins.false
